@@ -1,0 +1,3 @@
+-- What the contracts of this crate, and the machine above it, cite.
+pub mod Program
+pub mod Legal
