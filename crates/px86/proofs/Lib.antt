@@ -1,0 +1,22 @@
+-- The laws of the machine, and the computed tables. What holds of one step, then of runs, then of following and of slots; then the tables.
+pub mod Then
+pub mod Shape
+pub mod Few
+pub mod Falls
+pub mod Lawful
+pub mod After
+pub mod Fuel
+pub mod Exact
+pub mod Before
+pub mod Order
+pub mod Bound
+pub mod Done
+pub mod Follow
+pub mod Slots
+pub mod Codes
+pub mod Waits
+pub mod Progress
+pub mod Rows
+pub mod Cases
+pub mod Slips
+pub mod Numbers
