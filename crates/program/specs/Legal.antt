@@ -34,10 +34,11 @@ legalThreads locs [] = true
 legalThreads locs (os ∷ oss) = leb (length os) mostOps && legalOps locs os && legalThreads locs oss
 
 -- "A program has 1 to 4 threads, each of 0 to 8 instructions, over 1 to 6 locations."
+abbrev pub legalSizes : ℕ → ℕ → Bool
+legalSizes n locs = leb 1 n && leb n threads && leb 1 locs && leb locs locations
+
 unfoldable pub legalProg : Prog → Bool
-legalProg p =
-    leb 1 (length (p .threads)) && leb (length (p .threads)) threads && leb 1 (p .locs) && leb (p .locs) locations
-    && legalThreads (p .locs) (p .threads)
+legalProg p = legalSizes (length (p .threads)) (p .locs) && legalThreads (p .locs) (p .threads)
 
 -- each count of a program in memory is within its slots
 unfoldable pub allBelow : ℕ → List ℕ → Bool

@@ -1,0 +1,2 @@
+-- Laws of flat tables.
+pub mod Rows
