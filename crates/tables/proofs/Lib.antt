@@ -1,0 +1,5 @@
+-- Laws of flat tables, which the proofs of other crates cite.
+pub mod Packed
+pub mod Closed
+pub mod Table
+pub mod Mapped
