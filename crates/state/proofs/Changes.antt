@@ -5,7 +5,7 @@ use Prim.Native.Nat.{ℕ, _+_, _-_, _*_, _≤_, _<_, zero-le}
 use mathlib.Core.Path.{_≡_, refl}
 use mathlib.Core.List.{List, [], _∷_, _++_, map}
 use native.Mathlib.Omega.{arith}
-use lib.ListN.{length, getD, set, replicate, length-set}
+use lib.ListN.{getD, set, replicate, length-set}
 use Rattle.tables.specs.Tables.{rows, without, padded, closed, Table}
 use Rattle.tables.proofs.Closed.{all-set, all-replicate, all-closed}
 use Rattle.tables.proofs.Table.{below-set, pushed, removed, blank-table}

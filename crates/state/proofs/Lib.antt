@@ -2,3 +2,4 @@
 pub mod Reading
 pub mod Changes
 pub mod Marks
+pub mod Unique

@@ -2,11 +2,11 @@
 -- Assumes nothing.
 use Prim.Native.Nat.{ℕ, zero, suc, _+_, _-_, _≤_, _<_}
 use mathlib.Core.Path.{_≡_, refl, ap, sym, _∙_}
-use mathlib.Core.List.{List, [], _∷_, _++_, append-assoc, append-nil}
+use mathlib.Core.List.{List, [], _∷_, _++_, append-nil}
 use native.Mathlib.Numerals.{add-one}
 use native.Mathlib.Nat.{add-zero, zero-add, suc-add}
 use native.Mathlib.Omega.{arith}
-use lib.ListN.{length, getD, take, drop, set, replicate, length-append, length-set, length-take, length-drop, drop-of-length-le, List·getD-append}
+use lib.ListN.{length, getD, drop, set, replicate, length-append, length-set, length-take, length-drop, drop-of-length-le, List·getD-append}
 use lib.Seq.{set-split, set-append-left, take-suc-set, drop-set-lt, drop-cons, getD-drop, drop-drop, append-snoc}
 use Rattle.tables.specs.Tables.{without, padded, closed}
 
@@ -23,6 +23,14 @@ module _ {A : Type 0} where
   all-replicate P zero a p k = p
   all-replicate P (suc n) a p zero = p
   all-replicate P (suc n) a p (suc k) = all-replicate P n a p k
+
+  -- lists that are the same from place a on are so behind it after a store there
+  pub same-behind : (xs ys : List A) (a : ℕ) (v : A) → drop a ys ≡ drop a xs → drop (a + 1) (set ys a v) ≡ drop (a + 1) xs
+  same-behind xs ys a v same =
+      drop-set-lt (a + 1) ys a v (omega arith) ∙ (sym (drop-drop 1 a ys) ∙ (ap (drop 1) same ∙ drop-drop 1 a xs))
+
+  pub length-without : (r : List A) (p : ℕ) → p < length r → length (without p r) ≡ length r - 1
+  length-without r p h = simp (length-append, length-take, length-drop) (omega arith)
 
 module _ {A : Type 0} (z : A) where
   -- one turn of a loop that reads the list that it changes, and the loop's end
@@ -43,10 +51,6 @@ module _ {A : Type 0} (z : A) where
   closed-from xs ys a m same h =
       let e : getD xs (a + 1) z ≡ getD ys (a + 1) z = sym (getD-drop a xs 1 z) ∙ (ap (λ (l : List A). getD l 1 z) (sym same) ∙ getD-drop a ys 1 z) in
       rw e (closed-turn ys a m h)
-
-  pub same-behind : (xs ys : List A) (a : ℕ) (v : A) → drop a ys ≡ drop a xs → drop (a + 1) (set ys a v) ≡ drop (a + 1) xs
-  same-behind xs ys a v same =
-      drop-set-lt (a + 1) ys a v (omega arith) ∙ (sym (drop-drop 1 a ys) ∙ (ap (drop 1) same ∙ drop-drop 1 a xs))
 
   pub closed-length : (xs : List A) (a m : ℕ) → length (closed z xs a m) ≡ length xs
   unfolding closed
@@ -90,9 +94,6 @@ module _ {A : Type 0} (z : A) where
       rw add-one
       (closed-all (set r p v) (suc p) m (simp length-set (omega arith))
       ∙ rw (take-suc-set r p v (omega arith), drop-set-lt (suc (suc p)) r p v (omega arith), drop-cons r (suc p) z (omega arith), append-snoc))
-
-  pub length-without : (r : List A) (p : ℕ) → p < length r → length (without p r) ≡ length r - 1
-  length-without r p h = simp (length-append, length-take, length-drop) (omega arith)
 
   -- an element leaves a row that is padded up to w slots
   pub closed-padded :

@@ -4,14 +4,14 @@
 use Prim.Native.Nat.{ℕ, zero, suc, _+_, _-_, _*_, _≤_, _<_}
 use mathlib.Core.Path.{_≡_, refl, ap, sym, _∙_}
 use mathlib.Core.List.{List, [], _∷_, _++_, map, map-append}
-use mathlib.Core.Option.{Option, some, none}
+use mathlib.Core.Option.{some, none}
 use native.Mathlib.Numerals.{add-one}
 use native.Mathlib.Omega.{arith}
 use lib.ListN.{length, getD, take, drop, set, getElem?, length-take, length-map, drop-of-length-le, List·getD-map}
 use lib.Seq.{drop-cons, getD-take, length-take-le}
-use Rattle.tables.specs.Tables.{rows, without, closed, Table}
-use Rattle.tables.proofs.Packed.{map-set}
-use Rattle.tables.proofs.Table.{rows-there, row-count, row-entry, pushed, removed}
+use Rattle.tables.specs.Tables.{rows, without, packed, closed, Table}
+use Rattle.tables.proofs.Packed.{lengths, map-set}
+use Rattle.tables.proofs.Table.{rows-there, counts-are, row-count, row-entry, pushed, removed}
 
 module _ {A : Type 0} where
   pub element-there : (l : List A) (i : ℕ) (d : A) → i < length l → getElem? l i ≡ some (getD l i d)
@@ -102,3 +102,17 @@ module _ {A B : Type 0} (f : A → B) (w k : ℕ) (z : A) (xs : List A) (ns : Li
         ap (map (map f)) (removed w k z xs ns t i h p below .1)
         ∙ (map-set (map f) (rows w xs ns) i (without p r)
         ∙ ap (set (map (map f) (rows w xs ns)) i) (map-append f (take p r) (drop (suc p) r) ∙ rw (row-is, map-take, map-drop)))
+
+-- two tables whose rows are read the same, by an f that g undoes, are the same
+map-back : {A B : Type 0} (f : A → B) (g : B → A) → ((a : A) → g (f a) ≡ a) → (l : List A) → map g (map f l) ≡ l
+map-back f g back [] = refl
+map-back f g back (x ∷ l) = rw (back x, map-back f g back l)
+
+module _ {A B : Type 0} (f : A → B) (g : B → A) (back : (a : A) → g (f a) ≡ a) where
+  pub read-same :
+      (w k : ℕ) (z : A) (xs ys : List A) (ns ms : List ℕ) → Table w k z xs ns → Table w k z ys ms
+      → map (map f) (rows w xs ns) ≡ map (map f) (rows w ys ms) → (xs ≡ ys) × (ns ≡ ms)
+  read-same w k z xs ys ns ms t u e =
+      let all : (rs : List (List A)) → map (map g) (map (map f) rs) ≡ rs = map-back (map f) (map g) (map-back f g back) in
+      let same : rows w xs ns ≡ rows w ys ms = sym (all (rows w xs ns)) ∙ (ap (map (map g)) e ∙ all (rows w ys ms)) in
+      (t .blank ∙ (ap (packed w z) same ∙ sym (u .blank)), sym (counts-are w k z xs ns t) ∙ (ap lengths same ∙ counts-are w k z ys ms u))

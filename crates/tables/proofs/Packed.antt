@@ -1,10 +1,10 @@
 -- Rows that are packed one behind the other are cut into the same rows again, and a table in which one row changes changes in that row's
 -- slots alone.
 -- Assumes nothing.
-use Prim.Native.Nat.{ℕ, zero, suc, _+_, _-_, _*_, _≤_, _<_, zero-le}
-use mathlib.Core.Path.{_≡_, refl, ap, sym, _∙_}
+use Prim.Native.Nat.{ℕ, zero, suc, _-_, _*_, _≤_, _<_, zero-le}
+use mathlib.Core.Path.{_≡_, refl, ap, _∙_}
 use mathlib.Core.List.{List, [], _∷_, _++_, map, append-assoc}
-use native.Mathlib.Nat.{add-comm, suc-mul, zero-mul, add-zero}
+use native.Mathlib.Nat.{add-comm, suc-mul, zero-mul}
 use native.Mathlib.Omega.{arith}
 use lib.ListN.{length, getD, take, drop, set, replicate, length-append, length-replicate, length-take, length-drop}
 use lib.Seq.{drop-at, drop-drop, set-split, append-snoc, set-append-seam, take-append-seam, take-nil, length-take-le}

@@ -3,10 +3,10 @@
 -- Assumes nothing.
 use Prim.Native.Nat.{ℕ, zero, suc, _+_, _-_, _*_, _≤_, _<_, zero-le}
 use mathlib.Core.Path.{_≡_, refl, ap, sym, _∙_}
-use mathlib.Core.List.{List, [], _∷_, _++_, map}
+use mathlib.Core.List.{List, [], _∷_, _++_}
 use native.Mathlib.Nat.{zero-mul}
 use native.Mathlib.Omega.{arith}
-use lib.ListN.{length, getD, take, drop, set, replicate, length-append, length-take, length-map, length-set, length-replicate, replicate-append-replicate, List·getD-map}
+use lib.ListN.{length, getD, take, drop, set, replicate, length-append, length-map, length-set, length-replicate, replicate-append-replicate, List·getD-map}
 use lib.Seq.{getD-take, getD-drop, set-getD, set-append-left}
 use Rattle.tables.specs.Tables.{rows, without, padded, packed, closed, Below, Table}
 use Rattle.tables.proofs.Packed.{lengths, map-set, rows-count, rows-at, rows-lengths, rows-short, padded-length, padded-push, packed-length, front-length, rows-packed, packed-set}
@@ -135,7 +135,7 @@ module _ {A : Type 0} (w k : ℕ) (z : A) (xs : List A) (ns : List ℕ) (t : Tab
         let long : length r ≡ n = row-count in
         let n≤ : n ≤ w = t .short i in
         let full : length (padded w z r) ≡ w = padded-length w z r (omega arith) in
-        changed (closed z xs (i * w + p) (n - 1 - p)) (without p r) (n - 1) (length-without z r p (omega arith) ∙ omega arith) (omega arith)
+        changed (closed z xs (i * w + p) (n - 1 - p)) (without p r) (n - 1) (length-without r p (omega arith) ∙ omega arith) (omega arith)
         (ap (λ (l : List A). closed z l (i * w + p) (n - 1 - p)) split
         ∙ rw (← front-is, ← long)
         (closed-behind z front (padded w z r ++ back) p (length r - 1 - p)

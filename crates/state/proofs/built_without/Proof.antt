@@ -49,8 +49,12 @@ loop-less c = omega arith
 loop-again : tie.Need-loop-again Inv-loop μ-loop
 loop-again c =
     let l = c .before .before .loop in
-    let xs = c .before .before .before .args .t1 in
-    (simp length-set (l .inv .0), omega arith, same-behind noSlot xs (l .ys) (l .a) (getD xs (l .a + 1) noSlot) (l .inv .2), closed-from noSlot xs (l .ys) (l .a) (l .left) (l .inv .2) (c .before .loop-test .taken) ∙ l .inv .3)
+    let xs = c .before .before .before .args .t1 in (
+      simp length-set (l .inv .0),
+      omega arith,
+      same-behind xs (l .ys) (l .a) (getD xs (l .a + 1) noSlot) (l .inv .2),
+      closed-from noSlot xs (l .ys) (l .a) (l .left) (l .inv .2) (c .before .loop-test .taken) ∙ l .inv .3,
+    )
 
 mul-ys-3 : tie.Need-mul-ys-3 Inv-loop μ-loop
 mul-ys-3 c = omega arith
