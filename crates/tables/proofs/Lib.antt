@@ -1,2 +1,6 @@
--- Laws of flat tables.
+-- Laws of flat tables, which the proofs of other crates cite.
 pub mod Rows
+pub mod Packed
+pub mod Closed
+pub mod Table
+pub mod Mapped
