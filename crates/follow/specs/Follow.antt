@@ -1,0 +1,19 @@
+-- What follow returns for what it is told by the machine. Assumes nothing: these are definitions.
+use Prim.Native.Nat.{ℕ, _*_}
+use mathlib.Core.List.{List, [], _∷_, _++_}
+use lib.ListN.{getD, replicate}
+use Rattle.names.specs.Names.{threads, locations, registers}
+use Rattle.px86.specs.Ask.{Told}
+use Rattle.px86.specs.Ask.Told.{state, refused}
+use Rattle.follow.specs.declared.Followed.{Followed}
+use Rattle.follow.specs.declared.Outcome.the-variants.{After, Refused}
+
+-- the four registers of thread t
+abbrev pub four : List (List ℕ) → ℕ → List ℕ
+four g t = getD (getD g t []) 0 0 ∷ getD (getD g t []) 1 0 ∷ getD (getD g t []) 2 0 ∷ getD (getD g t []) 3 0 ∷ []
+
+-- "the memory, registers and places after it"; of a refusal "no state": all 0
+unfoldable pub reply : Told → Followed
+reply (state m g ns) = record { outcome = After; memory = m; registers = four g 0 ++ four g 1 ++ four g 2 ++ four g 3; places = ns }
+reply (refused x) =
+    record { outcome = Refused x; memory = replicate locations 0; registers = replicate (threads * registers) 0; places = replicate threads 0 }
