@@ -20,3 +20,4 @@ pub mod Rows
 pub mod Cases
 pub mod Slips
 pub mod Numbers
+pub mod Told
