@@ -10,7 +10,7 @@ use lib.Dec.{leb}
 use lib.ListN.{length, getD, getElem?}
 use lib.Seq.{getD-take}
 use Rattle.names.specs.Names.{threads, registers, isReg}
-use Rattle.tables.proofs.Rows.{found-below}
+use Rattle.tables.proofs.Found.{found-below}
 use Rattle.program.specs.Program.{progOf, countsOf, mostOps, fetchedOf}
 use Rattle.program.specs.Legal.{legalOp, legalOps, legalThreads, legalSizes, legalProg, allBelow, legal}
 use Rattle.program.specs.Kept.{countAt, threadAt, Sized, Fits, Kept}
