@@ -21,3 +21,4 @@ pub mod Cases
 pub mod Slips
 pub mod Numbers
 pub mod Told
+pub mod Unique
