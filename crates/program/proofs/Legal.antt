@@ -10,14 +10,16 @@ use lib.Dec.{leb}
 use lib.ListN.{length, getD, getElem?}
 use lib.Seq.{getD-take}
 use Rattle.names.specs.Names.{threads, registers, isReg}
-use Rattle.tables.proofs.Rows.{found-below}
-use Rattle.program.specs.Program.{progOf, countsOf, mostOps}
+use Rattle.tables.proofs.Found.{found-below}
+use Rattle.program.specs.Program.{progOf, countsOf, mostOps, fetchedOf}
 use Rattle.program.specs.Legal.{legalOp, legalOps, legalThreads, legalSizes, legalProg, allBelow, legal}
 use Rattle.program.specs.Kept.{countAt, threadAt, Sized, Fits, Kept}
 use Rattle.program.specs.declared.Op.{Op}
 use Rattle.program.specs.declared.Op.the-variants.{St, Sr, Ld, Cas, Faa, Mf, Sf, Fl, Fo, Bz}
 use Rattle.program.specs.declared.Program.{Program}
-use Rattle.program.proofs.Threads.{no-more, threads-length}
+use Rattle.program.specs.declared.Fetched.{Fetched}
+use Rattle.program.specs.declared.Fetched.the-variants.{Found}
+use Rattle.program.proofs.Threads.{no-more, threads-length, found-some}
 use Rattle.program.proofs.Tests.{both, two-below, below-all, sizes, within}
 
 -- a legal instruction fits its place
@@ -52,7 +54,9 @@ fits-more locs most n k (Fo l) h f = omega arith
 fits-more locs most n k (Bz r d) h f = f
 
 -- each instruction of a legal thread is legal
-pub ops-all : (locs : ℕ) (os : List Op) (k : ℕ) (o : Op) → legalOps locs os ≡ true → getElem? os k ≡ some o → legalOp locs (length os - suc k) o ≡ true
+pub ops-all :
+    (locs : ℕ) (os : List Op) (k : ℕ) (o : Op) → legalOps locs os ≡ true → getElem? os k ≡ some o
+    → legalOp locs (length os - suc k) o ≡ true
 unfolding legalOps
 ops-all locs [] k o h e = let z : _≡_ {A = ℕ} 0 1 = cc in absurd (omega arith)
 ops-all locs (x ∷ os) zero o h e =
@@ -108,6 +112,12 @@ module _ (p : Program) (h : legal p ≡ true) where
         short = λ t. threads-all (p .locs) (progOf p .threads) t (legal-prog .1) .0;
         fits = λ t k o e. legal-fits (p .locs) (length (threadAt p t)) k o (found-below (threadAt p t) k o e) (found-legal t k o e);
       }
+
+  -- the instruction that `op_at` finds fits its place
+  pub fetched-fits :
+      (t k : ℕ) (r : Fetched) (o : Op) → r ≡ fetchedOf (getElem? (threadAt p t) k) → r ≡ Found o
+      → Fits (p .locs) (length (threadAt p t)) k o
+  fetched-fits t k r o e f = kept .fits t k o (found-some (getElem? (threadAt p t) k) r o e f)
 
   -- there are as many threads as the program says, and each is as long as its count
   pub legal-width : Sized p → length (progOf p .threads) ≡ p .threads

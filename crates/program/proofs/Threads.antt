@@ -1,16 +1,19 @@
 -- The threads of a program in memory, read off its cells and counts. None of it asks that the program is legal. Assumes nothing.
 use Prim.Native.Nat.{ℕ, suc, _+_, _*_, _<_, _≤_}
 use mathlib.Core.Path.{_≡_, refl, ap, sym, _∙_}
-use mathlib.Core.Option.{none, some}
+use mathlib.Core.Option.{Option, none, some}
 use mathlib.Core.List.{List, [], _∷_, map}
 use native.Mathlib.Omega.{arith}
 use lib.ListN.{length, getD, take, drop, getElem?, length-take, length-drop, length-map, List·getD-eq-default, List·getD-map}
 use lib.Seq.{getD-take}
 use Rattle.tables.specs.Tables.{rows}
 use Rattle.tables.proofs.Rows.{rows-count, row-at, row-past, row-length, row-found, row-done, row-short}
-use Rattle.program.specs.Program.{progOf, countsOf, opsOf, opIn, mostOps}
+use Rattle.program.specs.Program.{progOf, countsOf, opsOf, opIn, mostOps, fetchedOf}
 use Rattle.program.specs.Kept.{countAt, threadAt}
+use Rattle.program.specs.declared.Op.{Op}
 use Rattle.program.specs.declared.Cell.{Cell}
+use Rattle.program.specs.declared.Fetched.{Fetched}
+use Rattle.program.specs.declared.Fetched.the-variants.{Found, Past}
 use Rattle.program.specs.declared.Program.{Program}
 
 module _ (p : Program) where
@@ -67,3 +70,14 @@ module _ (p : Program) where
   pub op-no-cell : (t k : ℕ) → length (p .cells) ≤ t * mostOps + k → getElem? (threadAt p t) k ≡ none
   unfolding progOf
   op-no-cell t k h = row-short mostOps (map opIn (p .cells)) (countsOf p) t k (simp length-map (omega arith))
+
+-- what an answer of `op_at` says of the thread
+pub found-some : (x : Option Op) (r : Fetched) (o : Op) → r ≡ fetchedOf x → r ≡ Found o → x ≡ some o
+unfolding fetchedOf
+found-some none r o e f = let z : _≡_ {A = ℕ} 0 1 = cc in absurd (omega arith)
+found-some (some y) r o e f = cc
+
+pub past-none : (x : Option Op) (r : Fetched) → r ≡ fetchedOf x → r ≡ Past → x ≡ none
+unfolding fetchedOf
+past-none none r e f = refl
+past-none (some y) r e f = let z : _≡_ {A = ℕ} 0 1 = cc in absurd (omega arith)

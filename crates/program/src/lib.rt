@@ -186,7 +186,7 @@ fn ops_fit(cells: [Cell; 32], locs: u8, t: u8, n: u8) -> bool
         let cell = cells[(t * Program::ROOM + k) as usize];
         let op = cell.op;
         k += 1;
-        if op_fits(op, locs, n - k) {} else {
+        if !op_fits(op, locs, n - k) {
             return false;
         }
     }
@@ -221,11 +221,10 @@ fn threads_fit(p: Program) -> bool
     let mut t: u8 = 0;
     while t < threads {
         let n = counts[t as usize];
-        if ops_fit(cells, locs, t, n) {
-            t += 1;
-        } else {
+        if !ops_fit(cells, locs, t, n) {
             return false;
         }
+        t += 1;
     }
     true
 }
@@ -252,15 +251,14 @@ pub fn is_legal(p: Program) -> bool
 {
     let threads = p.threads;
     let locs = p.locs;
-    if sizes_fit(threads, locs) {} else {
+    if !sizes_fit(threads, locs) {
         return false;
     }
     let counts = p.counts;
-    if counts_fit(counts, threads) {
-        threads_fit(p)
-    } else {
-        false
+    if !counts_fit(counts, threads) {
+        return false;
     }
+    threads_fit(p)
 }
 
 // Whether a question's program and budget keep every limit.

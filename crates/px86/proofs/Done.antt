@@ -6,6 +6,7 @@ use mathlib.Core.Logic.{_↔_}
 use mathlib.Core.Option.{none}
 use mathlib.Core.List.{List, [], _∷_}
 use lib.ListN.{length, getD, getElem?}
+use Rattle.tables.proofs.Found.{found-past}
 use Rattle.program.specs.Program.{Prog}
 use Rattle.program.specs.declared.Op.{Op}
 use Rattle.px86.specs.Machine.{Machine, place}
@@ -55,15 +56,10 @@ done p few m s = (
   λ f. omega (arith, none-left (p .threads) (m .places) (f .threads), none-held (m .buffers) (f .buffers), none-held (m .queues) (f .queues)),
 )
 
-past-none : {A : Type 0} (xs : List A) (i : ℕ) → length xs ≤ i → getElem? xs i ≡ none
-past-none [] i h = refl
-past-none (x ∷ xs) zero h = absurd (omega arith)
-past-none (x ∷ xs) (suc i) h = past-none xs i (omega arith)
-
 module _ (p : Prog) (m : Machine) (f : Finished p m) where
   sorted-stops : (c : Sort) → sorted p m c ≡ barred
   unfolding sorted next leaves persists
-  sorted-stops (thread t) = rw (past-none (getD (p .threads) t []) (place m t) (f .threads t)) refl
+  sorted-stops (thread t) = rw (found-past (getD (p .threads) t []) (place m t) (f .threads t)) refl
   sorted-stops (leave t i) = rw (f .buffers t) refl
   sorted-stops (persist n) = rw (f .queues n) refl
   sorted-stops other = refl

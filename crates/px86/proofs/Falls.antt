@@ -9,6 +9,7 @@ use lib.Dec.{eqb}
 use lib.ListN.{length, getD, set, getElem?, length-append}
 use Rattle.names.specs.Names.{threads, pick}
 use Rattle.tables.specs.Tables.{without}
+use Rattle.tables.proofs.Found.{found-below, length-without}
 use Rattle.program.specs.Program.{Prog}
 use Rattle.program.specs.declared.Op.{Op}
 use Rattle.program.specs.declared.Op.the-variants.{St, Sr, Ld, Cas, Faa, Mf, Sf, Fl, Fo, Bz}
@@ -22,22 +23,12 @@ use Rattle.px86.proofs.Then.{Then, then-when, then-fits, then-either}
 use Rattle.px86.proofs.Shape.{Shape}
 use Rattle.px86.proofs.Few.{Few}
 
-pub some-lt : {A : Type 0} (xs : List A) (i : ℕ) (x : A) → getElem? xs i ≡ some x → i < length xs
-some-lt [] i x e = let z : _≡_ {A = ℕ} 0 1 = cc in omega arith
-some-lt (y ∷ ys) zero x e = omega arith
-some-lt (y ∷ ys) (suc i) x e = omega (arith, some-lt ys i x e)
-
 -- the entries of a list of lists with one list changed
 pub entries-set : {A : Type 0} (xss : List (List A)) (t : ℕ) (ys : List A) → entries (set xss t ys) + length (getD xss t []) ≤ entries xss + length ys
 unfolding entries
 entries-set [] t ys = omega arith
 entries-set (xs ∷ xss) zero ys = omega arith
 entries-set (xs ∷ xss) (suc t) ys = omega (arith, entries-set xss t ys)
-
-pub length-without : {A : Type 0} (xs : List A) (i : ℕ) → i < length xs → length (without i xs) + 1 ≡ length xs
-length-without [] i h = omega arith
-length-without (x ∷ xs) zero h = omega arith
-length-without (x ∷ xs) (suc i) h = omega (arith, length-without xs i (omega arith))
 
 -- a place further on leaves no more instructions, and past one that is there it leaves fewer
 later : (oss : List (List Op)) (ns : List ℕ) (t n : ℕ) → getD ns t 0 ≤ n → leftOver oss (set ns t n) ≤ leftOver oss ns
@@ -51,7 +42,7 @@ past : (oss : List (List Op)) (ns : List ℕ) (t : ℕ) (o : Op) → length oss 
 unfolding leftOver
 past [] ns t o h e = let z : _≡_ {A = ℕ} 0 1 = cc in omega arith
 past (os ∷ oss) [] t o h e = omega arith
-past (os ∷ oss) (k ∷ ns) zero o h e = omega (arith, some-lt os k o e)
+past (os ∷ oss) (k ∷ ns) zero o h e = omega (arith, found-below os k o e)
 past (os ∷ oss) (k ∷ ns) (suc t) o h e = omega (arith, past oss ns t o (omega arith) e)
 
 module _ (p : Prog) where
@@ -109,7 +100,7 @@ module _ (p : Prog) where
       then-when _ _ _
       (goes-falls _ t e (work p m)
       (omega
-      (arith, entries-set (m .buffers) t (without i (buffer m t)), length-without (buffer m t) i (some-lt (buffer m t) i e h))))
+      (arith, entries-set (m .buffers) t (without i (buffer m t)), length-without (buffer m t) i (found-below (buffer m t) i e h), found-below (buffer m t) i e h)))
 
   pub persists-falls : (m : Machine) (n : ℕ) (q : List Mark) → queue m n ≡ q → Then (Below (work p m)) (persists m n q)
   unfolding Below persists queued persisted work

@@ -14,6 +14,11 @@ use Rattle.px86.specs.Runs.{Steps, after, Followed, onward, follow}
 use Rattle.px86.specs.Runs.Followed.{at, stopped, noPlace}
 use Rattle.px86.proofs.After.{after-barred, after-full, Begun, begun, begin}
 
+-- no code: the state is as it was
+pub follow-nil : (s : Steps) (i : ℕ) (m : Machine) → follow s i m [] ≡ at m
+unfolding follow
+follow-nil s i m = refl
+
 -- one code: the rest is followed, or it ends here
 module _ (s : Steps) (i : ℕ) (m : Machine) (c : ℕ) (cs : List ℕ) where
   pub follow-cons : follow s i m (c ∷ cs) ≡ onward (λ n. follow s (suc i) n cs) i (s m c)

@@ -20,3 +20,5 @@ pub mod Rows
 pub mod Cases
 pub mod Slips
 pub mod Numbers
+pub mod Told
+pub mod Unique

@@ -9,9 +9,9 @@ pub refusals : List Refusal
 refusals = Illegal ∷ WrongWant ∷ Over 50 ∷ TooLong ∷ Barred 3 ∷ NoRoom ∷ []
 
 pub numbers : map numberOf refusals ≡ 6 ∷ 7 ∷ 8 ∷ 9 ∷ 10 ∷ 11 ∷ []
-unfolding refusals numberOf
+unfolding refusals
 numbers = refl
 
 pub values : map valueOf refusals ≡ 0 ∷ 0 ∷ 50 ∷ 0 ∷ 3 ∷ 0 ∷ []
-unfolding refusals valueOf
+unfolding refusals
 values = refl

@@ -6,6 +6,7 @@ use native.Mathlib.Decide.{decLt}
 use mathlib.Core.Option.{Option, some}
 use mathlib.Core.List.{List, [], _∷_}
 use lib.ListN.{length, getD, getElem?}
+use Rattle.tables.proofs.Found.{found-some}
 use Rattle.program.specs.Program.{Prog}
 use Rattle.program.specs.declared.Op.{Op}
 use Rattle.px86.specs.Machine.{Entry, Mark, Machine}
@@ -41,18 +42,13 @@ record Left (oss : List (List Op)) (ns : List ℕ) : Type 0 where
   op : Op
   is : getElem? (getD oss at []) (getD ns at 0) ≡ some op
 
-lt-some : {A : Type 0} (xs : List A) (i : ℕ) → i < length xs → (x : A) × (getElem? xs i ≡ some x)
-lt-some [] i h = absurd (omega arith)
-lt-some (x ∷ xs) zero h = (x, refl)
-lt-some (x ∷ xs) (suc i) h = lt-some xs i (omega arith)
-
 left : (oss : List (List Op)) (ns : List ℕ) → 0 < leftOver oss ns → Left oss ns
 unfolding leftOver
 left [] ns h = absurd (omega arith)
 left (os ∷ oss) [] h = absurd (omega arith)
 left (os ∷ oss) (n ∷ ns) h =
     elim (decLt n (length os)) [
-      | yes q ↦ let x = lt-some os n q in record { at = 0; lt = omega arith; op = x .0; is = x .1 }
+      | yes q ↦ let x = found-some os n q in record { at = 0; lt = omega arith; op = x .0; is = x .1 }
       | no q ↦
           let r : Left oss ns = left oss ns (omega arith) in
           record { at = suc (r .at); lt = omega (arith, r .lt); op = r .op; is = r .is }

@@ -20,7 +20,7 @@ use Rattle.px86.specs.Runs.Event.{run, noRoom}
 use Rattle.px86.specs.Runs.Followed.{at, stopped, noPlace}
 
 -- document 01's number for a refusal, and the number that it returns beside it (0: nothing)
-unfoldable pub numberOf : Refusal → ℕ
+abbrev pub numberOf : Refusal → ℕ
 numberOf Illegal = 6
 numberOf WrongWant = 7
 numberOf (Over b) = 8
@@ -28,7 +28,7 @@ numberOf TooLong = 9
 numberOf (Barred i) = 10
 numberOf NoRoom = 11
 
-unfoldable pub valueOf : Refusal → ℕ
+abbrev pub valueOf : Refusal → ℕ
 valueOf Illegal = 0
 valueOf WrongWant = 0
 valueOf (Over b) = b

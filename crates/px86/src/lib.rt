@@ -1,6 +1,8 @@
-// The Px86 machine of document 01 as definitions with their laws: see specs/ and proofs/. The code here is the names of what is refused.
+// The Px86 machine of document 01 as definitions with their laws: see specs/ and proofs/. The code here is what is refused, and its numbers.
+ghost use mathlib.Core.Path.{_≡_};
+ghost use Rattle.px86.specs.Ask.{numberOf, valueOf};
 
-// Why a question, or a list of steps, has no answer. specs/Ask.antt has document 01's number for each, and what it returns.
+// Why a question, or a list of steps, has no answer.
 pub enum Refusal {
     // the program or the budget breaks a limit
     Illegal,
@@ -14,4 +16,34 @@ pub enum Refusal {
     Barred(usize),
     // an allowed step lacks a place in its buffer or queue
     NoRoom,
+}
+
+impl Refusal {
+    // Document 01's number of a refusal.
+    pub fn number(self) -> u8
+        ensures { λ r. ⌜ r ≡ numberOf self ⌝ }
+    {
+        match self {
+            Refusal::Illegal => 6,
+            Refusal::WrongWant => 7,
+            Refusal::Over(_) => 8,
+            Refusal::TooLong => 9,
+            Refusal::Barred(_) => 10,
+            Refusal::NoRoom => 11,
+        }
+    }
+
+    // What it returns beside its number: the budget, the index, or 0 where it returns nothing.
+    pub fn value(self) -> u64
+        ensures { λ r. ⌜ r ≡ valueOf self ⌝ }
+    {
+        match self {
+            Refusal::Illegal => 0,
+            Refusal::WrongWant => 0,
+            Refusal::Over(b) => b as u64,
+            Refusal::TooLong => 0,
+            Refusal::Barred(i) => i as u64,
+            Refusal::NoRoom => 0,
+        }
+    }
 }

@@ -3,3 +3,4 @@ pub mod Reading
 pub mod Changes
 pub mod Marks
 pub mod Unique
+pub mod Once

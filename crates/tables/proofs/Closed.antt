@@ -9,6 +9,7 @@ use native.Mathlib.Omega.{arith}
 use lib.ListN.{length, getD, drop, set, replicate, length-append, length-set, length-take, length-drop, drop-of-length-le, List·getD-append}
 use lib.Seq.{set-split, set-append-left, take-suc-set, drop-set-lt, drop-cons, getD-drop, drop-drop, append-snoc}
 use Rattle.tables.specs.Tables.{without, padded, closed}
+use Rattle.tables.proofs.Found.{length-without}
 
 module _ {A : Type 0} where
   -- what holds of every element holds after a store of one of which it holds
@@ -28,9 +29,6 @@ module _ {A : Type 0} where
   pub same-behind : (xs ys : List A) (a : ℕ) (v : A) → drop a ys ≡ drop a xs → drop (a + 1) (set ys a v) ≡ drop (a + 1) xs
   same-behind xs ys a v same =
       drop-set-lt (a + 1) ys a v (omega arith) ∙ (sym (drop-drop 1 a ys) ∙ (ap (drop 1) same ∙ drop-drop 1 a xs))
-
-  pub length-without : (r : List A) (p : ℕ) → p < length r → length (without p r) ≡ length r - 1
-  length-without r p h = simp (length-append, length-take, length-drop) (omega arith)
 
 module _ {A : Type 0} (z : A) where
   -- one turn of a loop that reads the list that it changes, and the loop's end

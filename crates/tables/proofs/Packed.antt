@@ -4,7 +4,7 @@
 use Prim.Native.Nat.{ℕ, zero, suc, _-_, _*_, _≤_, _<_, zero-le}
 use mathlib.Core.Path.{_≡_, refl, ap, _∙_}
 use mathlib.Core.List.{List, [], _∷_, _++_, map, append-assoc}
-use native.Mathlib.Nat.{add-comm, suc-mul, zero-mul}
+use native.Mathlib.Nat.{zero-mul}
 use native.Mathlib.Omega.{arith}
 use lib.ListN.{length, getD, take, drop, set, replicate, length-append, length-replicate, length-take, length-drop}
 use lib.Seq.{drop-at, drop-drop, set-split, append-snoc, set-append-seam, take-append-seam, take-nil, length-take-le}
@@ -21,19 +21,6 @@ module _ {A B : Type 0} (f : A → B) where
   map-set (x ∷ l) (suc i) a = rw (map-set l i a)
 
 module _ {A : Type 0} where
-  -- there is a row for each count
-  pub rows-count : (w : ℕ) (xs : List A) (ns : List ℕ) → length (rows w xs ns) ≡ length ns
-  unfolding rows
-  rows-count w xs [] = refl
-  rows-count w xs (n ∷ ns) = ap suc (rows-count w (drop w xs) ns)
-
-  -- a row read off the list of rows
-  pub rows-at : (w : ℕ) (xs : List A) (ns : List ℕ) (i : ℕ) → i < length ns → getD (rows w xs ns) i [] ≡ take (getD ns i 0) (drop (i * w) xs)
-  unfolding rows
-  rows-at w xs [] i h = absurd (omega arith)
-  rows-at w xs (n ∷ ns) zero h = rw zero-mul
-  rows-at w xs (n ∷ ns) (suc i) h = rows-at w (drop w xs) ns i (omega arith) ∙ rw (drop-drop, suc-mul, add-comm w (i * w))
-
   -- a row is as long as its count says, where the table is long enough for all its rows
   pub rows-lengths : (w : ℕ) (xs : List A) (ns : List ℕ) → Below w ns → length ns * w ≤ length xs → lengths (rows w xs ns) ≡ ns
   unfolding rows

@@ -39,7 +39,7 @@ returns-3 : tie.Need-returns-3
 unfolding fetchedOf
 returns-3 c =
     let a = c .before .before .before .before .before .before .args in
-    sym (ap fetchedOf (op-past (a .p) (a .t .0) (a .k) (c .before .before .before .if1 .left) (c .if3 .taken)))
+    sym (ap fetchedOf (op-past (a .p) (a .t .0) (a .k) (omega arith) (omega arith)))
 
 cast-at : tie.Need-cast-at
 cast-at c = search needs
@@ -68,7 +68,7 @@ unfolding fetchedOf
 returns-5 c =
     let a = c .before .before .before .before .before .before .before .before .before .args in
     let cells : length (a .p .cells) ≡ 32 = search (needs, length-mapped) in
-    sym (ap fetchedOf (op-found (a .p) (a .t .0) (a .k) _ (c .before .before .before .before .before .before .if1 .left) (c .before .before .before .if3 .left) (omega arith)))
+    sym (ap fetchedOf (op-found (a .p) (a .t .0) (a .k) _ (omega arith) (omega arith) (omega arith)))
 
 pub op-at-spec : {M : Type 1} → statement M
 op-at-spec =

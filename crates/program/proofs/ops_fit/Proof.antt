@@ -4,6 +4,7 @@ use Prim.Native.Nat.{ℕ, _+_, _*_, _-_, _<_, _≤_}
 use mathlib.Core.Path.{_≡_, refl, sym, _∙_}
 use native.Mathlib.Omega.{arith}
 use borrow.Author.Needs.{needs}
+use borrow.Author.Tests.{not-true, not-false}
 use lib.ListN.{length, drop}
 use Rattle.tables.proofs.Rows.{length-mapped}
 use Rattle.program.specs.Program.{opsOf, mostOps}
@@ -17,6 +18,12 @@ Inv-loop locs t n cells k₀ k = (k ≤ n) × (legalOps locs (drop k (opsOf cell
 
 abbrev μ-loop : tie.MeasureT-loop
 μ-loop locs t n cells k₀ k = n - k
+
+-- the thread's cells are there
+cells-fit : (s : tie.Start Inv-loop μ-loop) → s .args .t * mostOps + s .args .n ≤ length (s .args .t1)
+cells-fit s =
+    let cells : length (s .args .t1) ≡ 32 = search (needs, length-mapped) in
+    omega arith
 
 loop-holds : tie.Need-loop-holds Inv-loop μ-loop
 loop-holds c = (omega arith, refl)
@@ -45,34 +52,31 @@ sub-op-fits c = omega arith
 op-fits-requires : tie.Need-op-fits-requires Inv-loop μ-loop
 op-fits-requires c κs = search needs
 
+returns : tie.Need-returns Inv-loop μ-loop
+returns c =
+    let s = c .before .before .before .before .before in
+    let a = s .args in
+    let l = c .before .before .before .before .loop in
+    let tested = sym (c .before .op-fits .ensures) ∙ not-true (c .before .op-fits .result) (c .if1 .taken) in
+    ops-stop (a .t1) (a .locs) (a .t) (a .n) (cells-fit s) (l .k) _ (c .before .before .before .loop-test .taken) tested ∙ l .inv .1
+
 loop-less : tie.Need-loop-less Inv-loop μ-loop
 loop-less c = omega arith
 
 loop-again : tie.Need-loop-again Inv-loop μ-loop
 loop-again c =
     let s = c .before .before .before .before .before in
+    let a = s .args in
     let l = c .before .before .before .before .loop in
-    let cells : length (s .args .t1) ≡ 32 = search (needs, length-mapped) in
-    let fits : s .args .t * mostOps + s .args .n ≤ length (s .args .t1) = omega arith in
-    let tested = sym (c .before .op-fits .ensures) ∙ c .if1 .taken in
-    (omega arith, ops-on (s .args .t1) (s .args .locs) (s .args .t) (s .args .n) fits (l .k) _ (c .before .before .before .loop-test .taken) tested ∙ l .inv .1)
-
-returns : tie.Need-returns Inv-loop μ-loop
-returns c =
-    let s = c .before .before .before .before .before in
-    let l = c .before .before .before .before .loop in
-    let cells : length (s .args .t1) ≡ 32 = search (needs, length-mapped) in
-    let fits : s .args .t * mostOps + s .args .n ≤ length (s .args .t1) = omega arith in
-    let tested = sym (c .before .op-fits .ensures) ∙ c .if1 .left in
-    ops-stop (s .args .t1) (s .args .locs) (s .args .t) (s .args .n) fits (l .k) _ (c .before .before .before .loop-test .taken) tested ∙ l .inv .1
+    let tested = sym (c .before .op-fits .ensures) ∙ not-false (c .before .op-fits .result) (c .if1 .left) in
+    (omega arith, ops-on (a .t1) (a .locs) (a .t) (a .n) (cells-fit s) (l .k) _ (c .before .before .before .loop-test .taken) tested ∙ l .inv .1)
 
 returns-2 : tie.Need-returns-2 Inv-loop μ-loop
 returns-2 c =
     let s = c .before .before in
+    let a = s .args in
     let l = c .before .loop in
-    let cells : length (s .args .t1) ≡ 32 = search (needs, length-mapped) in
-    let fits : s .args .t * mostOps + s .args .n ≤ length (s .args .t1) = omega arith in
-    ops-end (s .args .t1) (s .args .locs) (s .args .t) (s .args .n) fits (l .k) (c .loop-test .left) ∙ l .inv .1
+    ops-end (a .t1) (a .locs) (a .t) (a .n) (cells-fit s) (l .k) (c .loop-test .left) ∙ l .inv .1
 
 pub ops-fit-spec : {M : Type 1} → statement M
 ops-fit-spec =
@@ -89,7 +93,7 @@ ops-fit-spec =
     add-k
     sub-op-fits
     op-fits-requires
+    returns
     loop-less
     loop-again
-    returns
     returns-2)
