@@ -11,7 +11,6 @@ use lib.Dec.{ltb}
 use lib.ListN.{length, getD, take, drop, drop-of-length-le, List·getD-map}
 use lib.Seq.{drop-cons, take-take}
 use borrow.Author.Tests.{ltb-true, ltb-false, ne-eqb, eq-eqb}
-use Rattle.names.specs.Names.{pick}
 use Rattle.tables.specs.Tables.{rows}
 use Rattle.tables.proofs.Rows.{row-at}
 use Rattle.program.specs.Program.{Prog}
@@ -21,9 +20,8 @@ use Rattle.px86.specs.Machine.Entry.{store, fence, flush, flushopt}
 use Rattle.px86.specs.Step.{stored, written, clear, allClear, blocks, passes}
 use Rattle.state.specs.State.{markOf, entryIn, noSlot, queuesIn, buffersIn, queueIn, bufferIn, Valid}
 use Rattle.state.specs.declared.State.{State}
-use Rattle.state.specs.declared.Slot.{Slot}
 use Rattle.state.proofs.Marks.{mark-write, mark-opt, opt-is}
-use Rattle.state.proofs.Reading.{six-queues, queue-turn, queue-end, buffer-count, buffer-turn, buffer-end, older-turn, older-end}
+use Rattle.state.proofs.Reading.{queue-turn, queue-end, buffer-count, buffer-turn, buffer-end, older-turn, older-end}
 
 -- the first n slots of row i of a table of w slots to a row, as f reads them: what a loop over the row knows of it
 abbrev pub slots : {A B : Type 0} → (A → B) → ℕ → List A → ℕ → ℕ → List B

@@ -26,7 +26,8 @@ queue-clear-requires : tie.Need-queue-clear-requires Inv-loop μ-loop
 queue-clear-requires c κs = search needs
 
 returns : tie.Need-returns Inv-loop μ-loop
-returns c =     let b = c .before .before .before .before in
+returns c =
+    let b = c .before .before .before .before in
     let s = b .args .s in
     let l = c .before .before .before .loop in
     let there : l .l < length (queuesIn s) = omega (arith, six-queues s (b .pre .0)) in
@@ -39,14 +40,16 @@ loop-less : tie.Need-loop-less Inv-loop μ-loop
 loop-less c = omega arith
 
 loop-again : tie.Need-loop-again Inv-loop μ-loop
-loop-again c =     let b = c .before .before .before .before in
+loop-again c =
+    let b = c .before .before .before .before in
     let s = b .args .s in
     let l = c .before .before .before .loop in
     let there : l .l < length (queuesIn s) = omega (arith, six-queues s (b .pre .0)) in
     (omega arith, all-on (b .args .t .0) (queuesIn s) (l .l) there (sym (c .before .queue-clear .ensures) ∙ not-false _ (c .if1 .left)) ∙ l .inv .1)
 
 returns-2 : tie.Need-returns-2 Inv-loop μ-loop
-returns-2 c =     let b = c .before .before in
+returns-2 c =
+    let b = c .before .before in
     let s = b .args .s in
     let l = c .before .loop in
     all-end (b .args .t .0) (queuesIn s) (l .l) (omega (arith, six-queues s (b .pre .0))) ∙ l .inv .1

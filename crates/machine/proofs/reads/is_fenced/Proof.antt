@@ -1,7 +1,6 @@
 -- `machine::reads::is_fenced` meets its contract: a buffer of no length is the empty one. Assumes nothing.
 use Prim.Native.Nat.{_<_}
-use mathlib.Core.Path.{_≡_, _∙_}
-use mathlib.Core.Bool.{_&&_}
+use mathlib.Core.Path.{_≡_}
 use native.Mathlib.Omega.{arith}
 use lib.ListN.{length}
 use Rattle.px86.specs.Step.{fenced}
@@ -19,13 +18,15 @@ all-clear-requires c κs = search needs
 
 returns : tie.Need-returns
 unfolding fenced
-returns c =     let a = c .before .before .before .args in
+returns c =
+    let a = c .before .before .before .args in
     let none : length (bufferIn (a .s) (a .t .0)) ≡ 0 = omega arith in
     λ ns g. rw (empty-none (bufferIn (a .s) (a .t .0)) none) (c .all-clear .ensures)
 
 returns-2 : tie.Need-returns-2
 unfolding fenced
-returns-2 c =     let a = c .before .before .args in
+returns-2 c =
+    let a = c .before .before .args in
     let some : 0 < length (bufferIn (a .s) (a .t .0)) = omega arith in
     λ ns g. rw (empty-some (bufferIn (a .s) (a .t .0)) some)
 

@@ -13,7 +13,8 @@ use Rattle.machine.proofs.reads.newest_buffered.Statement.{statement}
 use Rattle.machine.proofs.reads.newest_buffered.Tie as tie
 
 abbrev Inv-loop : tie.InvT-loop
-Inv-loop l old at buffered n v₀ j₀ v j =     (n ≤ 8) × (j ≤ n) × (stored (l .0) v (drop j (slots entryIn 8 buffered at n)) ≡ stored (l .0) v₀ (slots entryIn 8 buffered at n))
+Inv-loop l old at buffered n v₀ j₀ v j =
+    (n ≤ 8) × (j ≤ n) × (stored (l .0) v (drop j (slots entryIn 8 buffered at n)) ≡ stored (l .0) v₀ (slots entryIn 8 buffered at n))
 
 abbrev μ-loop : tie.MeasureT-loop
 μ-loop l old at buffered n v₀ j₀ v j = n - j
@@ -52,7 +53,8 @@ loop-less : tie.Need-loop-less Inv-loop μ-loop
 loop-less c = omega arith
 
 loop-again : tie.Need-loop-again Inv-loop μ-loop
-loop-again c =     let b = c .before .before .before .before .before .before .before in
+loop-again c =
+    let b = c .before .before .before .before .before .before .before in
     let s = b .args .s in
     let t = b .args .t .0 in
     let l = b .args .l .0 in
@@ -63,7 +65,8 @@ loop-again c =     let b = c .before .before .before .before .before .before .be
 
 returns : tie.Need-returns Inv-loop μ-loop
 unfolding stored
-returns c =     let b = c .before .before .before .before .before in
+returns c =
+    let b = c .before .before .before .before .before in
     let s = b .args .s in
     let t = b .args .t .0 in
     let l = b .args .l .0 in

@@ -13,7 +13,7 @@ use Rattle.machine.proofs.reads.newest_queued.Statement.{statement}
 use Rattle.machine.proofs.reads.newest_queued.Tie as tie
 
 abbrev Inv-loop : tie.InvT-loop
-Inv-loop l old at queued n v₀ j₀ v j = 
+Inv-loop l old at queued n v₀ j₀ v j =
     (n ≤ 32) × (j ≤ n) × (written (l .0) v (drop j (slots markOf 32 queued at n)) ≡ written (l .0) v₀ (slots markOf 32 queued at n))
 
 abbrev μ-loop : tie.MeasureT-loop
@@ -53,7 +53,7 @@ loop-less : tie.Need-loop-less Inv-loop μ-loop
 loop-less c = omega arith
 
 loop-again : tie.Need-loop-again Inv-loop μ-loop
-loop-again c = 
+loop-again c =
     let b = c .before .before .before .before .before .before in
     let s = b .args .s in
     let l = b .args .l .0 in
@@ -64,7 +64,7 @@ loop-again c =
 
 returns : tie.Need-returns Inv-loop μ-loop
 unfolding written
-returns c = 
+returns c =
     let b = c .before .before .before .before .before in
     let s = b .args .s in
     let l = b .args .l .0 in

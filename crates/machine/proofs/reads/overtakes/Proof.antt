@@ -14,7 +14,8 @@ use Rattle.machine.proofs.reads.overtakes.Statement.{statement}
 use Rattle.machine.proofs.reads.overtakes.Tie as tie
 
 abbrev Inv-loop : tie.InvT-loop
-Inv-loop l i at buffered n j₀ j =     (i ≤ 8) × (j ≤ i) × ((p : Prog) → passes p (l .0) (drop j (slots entryIn 8 buffered at i)) ≡ passes p (l .0) (slots entryIn 8 buffered at i))
+Inv-loop l i at buffered n j₀ j =
+    (i ≤ 8) × (j ≤ i) × ((p : Prog) → passes p (l .0) (drop j (slots entryIn 8 buffered at i)) ≡ passes p (l .0) (slots entryIn 8 buffered at i))
 
 abbrev μ-loop : tie.MeasureT-loop
 μ-loop l i at buffered n j₀ j = i - j
@@ -23,7 +24,8 @@ cast-at : tie.Need-cast-at Inv-loop μ-loop
 cast-at c = search needs
 
 loop-holds : tie.Need-loop-holds Inv-loop μ-loop
-loop-holds c =     let b = c .before .before in
+loop-holds c =
+    let b = c .before .before in
     let s = b .args .s in
     let t = b .args .t .0 in
     (omega (arith, buffer-count s (b .pre .0) t (b .pre .1 .0), buffer-room s (b .pre .0) t), omega arith, λ p. refl)
@@ -44,15 +46,16 @@ stops-requires : tie.Need-stops-requires Inv-loop μ-loop
 stops-requires c κs = search needs
 
 returns : tie.Need-returns Inv-loop μ-loop
-returns c =     let b = c .before .before .before .before .before .before .before in
+returns c =
+    let b = c .before .before .before .before .before .before .before in
     let s = b .args .s in
     let t = b .args .t .0 in
     let l = b .args .l .0 in
     let loop = c .before .before .before .before .loop in
     λ p.
-        passes-stop s (b .pre .0) t (b .pre .1 .0) (b .args .i) (b .pre .1 .1) (loop .j) (c .before .before .before .loop-test .taken) p l
-        (sym (c .before .stops .ensures p) ∙ c .if1 .taken)
-        ∙ (loop .inv .2 p ∙ ap (passes p l) (sym (older-slots s (b .pre .0) t (b .pre .1 .0) (b .args .i) (b .pre .1 .1))))
+    passes-stop s (b .pre .0) t (b .pre .1 .0) (b .args .i) (b .pre .1 .1) (loop .j) (c .before .before .before .loop-test .taken) p l
+    (sym (c .before .stops .ensures p) ∙ c .if1 .taken)
+    ∙ (loop .inv .2 p ∙ ap (passes p l) (sym (older-slots s (b .pre .0) t (b .pre .1 .0) (b .args .i) (b .pre .1 .1))))
 
 add-j : tie.Need-add-j Inv-loop μ-loop
 add-j c = omega arith
@@ -61,7 +64,8 @@ loop-less : tie.Need-loop-less Inv-loop μ-loop
 loop-less c = omega arith
 
 loop-again : tie.Need-loop-again Inv-loop μ-loop
-loop-again c =     let b = c .before .before .before .before .before .before .before in
+loop-again c =
+    let b = c .before .before .before .before .before .before .before in
     let s = b .args .s in
     let t = b .args .t .0 in
     let l = b .args .l .0 in
@@ -76,14 +80,15 @@ loop-again c =     let b = c .before .before .before .before .before .before .be
 
 returns-2 : tie.Need-returns-2 Inv-loop μ-loop
 unfolding passes
-returns-2 c =     let b = c .before .before .before .before in
+returns-2 c =
+    let b = c .before .before .before .before in
     let s = b .args .s in
     let t = b .args .t .0 in
     let l = b .args .l .0 in
     let loop = c .before .loop in
     λ p.
-        ap (passes p l) (sym (older-done s (b .pre .0) t (b .pre .1 .0) (b .args .i) (b .pre .1 .1) (loop .j) (c .loop-test .left)))
-        ∙ (loop .inv .2 p ∙ ap (passes p l) (sym (older-slots s (b .pre .0) t (b .pre .1 .0) (b .args .i) (b .pre .1 .1))))
+    ap (passes p l) (sym (older-done s (b .pre .0) t (b .pre .1 .0) (b .args .i) (b .pre .1 .1) (loop .j) (c .loop-test .left)))
+    ∙ (loop .inv .2 p ∙ ap (passes p l) (sym (older-slots s (b .pre .0) t (b .pre .1 .0) (b .args .i) (b .pre .1 .1))))
 
 pub overtakes-spec : {M : Type 1} → statement M
 overtakes-spec =

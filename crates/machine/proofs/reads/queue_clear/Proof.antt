@@ -13,7 +13,8 @@ use Rattle.machine.proofs.reads.queue_clear.Statement.{statement}
 use Rattle.machine.proofs.reads.queue_clear.Tie as tie
 
 abbrev Inv-loop : tie.InvT-loop
-Inv-loop at queued n fo j₀ j =     (n ≤ 32) × (j ≤ n) × ((t : ℕ) → fo ≡ 1536 + t → clear t (drop j (slots markOf 32 queued at n)) ≡ clear t (slots markOf 32 queued at n))
+Inv-loop at queued n fo j₀ j =
+    (n ≤ 32) × (j ≤ n) × ((t : ℕ) → fo ≡ 1536 + t → clear t (drop j (slots markOf 32 queued at n)) ≡ clear t (slots markOf 32 queued at n))
 
 abbrev μ-loop : tie.MeasureT-loop
 μ-loop at queued n fo j₀ j = n - j
@@ -49,7 +50,8 @@ array-read-e : tie.Need-array-read-e Inv-loop μ-loop
 array-read-e c = omega arith
 
 returns : tie.Need-returns Inv-loop μ-loop
-returns c =     let b = c .before .before .before .before .before .before .before in
+returns c =
+    let b = c .before .before .before .before .before .before .before in
     let s = b .args .s in
     let t = b .args .t .0 in
     let l = b .args .l .0 in
@@ -64,7 +66,8 @@ loop-less : tie.Need-loop-less Inv-loop μ-loop
 loop-less c = omega arith
 
 loop-again : tie.Need-loop-again Inv-loop μ-loop
-loop-again c =     let b = c .before .before .before .before .before .before .before in
+loop-again c =
+    let b = c .before .before .before .before .before .before .before in
     let s = b .args .s in
     let l = b .args .l .0 in
     let loop = c .before .before .loop in (
@@ -77,7 +80,8 @@ loop-again c =     let b = c .before .before .before .before .before .before .be
 
 returns-2 : tie.Need-returns-2 Inv-loop μ-loop
 unfolding clear
-returns-2 c =     let b = c .before .before .before .before .before .before in
+returns-2 c =
+    let b = c .before .before .before .before .before .before in
     let s = b .args .s in
     let t = b .args .t .0 in
     let l = b .args .l .0 in

@@ -1,10 +1,7 @@
 -- `machine::reads::read` meets its contract: the buffer's newest store, over the queue's newest write, over memory, is how the definition
 -- reads. Assumes nothing.
-use Prim.Native.Nat.{ℕ}
-use mathlib.Core.Path.{ap, _∙_}
 use Rattle.px86.specs.Machine.{line}
-use Rattle.px86.specs.Step.{stored, reads}
-use Rattle.state.specs.State.{bufferIn}
+use Rattle.px86.specs.Step.{reads}
 use borrow.Author.Needs.{needs}
 use Rattle.machine.proofs.reads.read.Statement.{statement}
 use Rattle.machine.proofs.reads.read.Tie as tie
@@ -23,8 +20,7 @@ newest-buffered-requires c κs = search needs
 
 returns : tie.Need-returns
 unfolding reads line
-returns c =     let a = c .before .before .before .before .args in
-    λ p ns g. c .newest-buffered .ensures ∙ ap (λ (x : ℕ). stored (a .l .0) x (bufferIn (a .s) (a .t .0))) (c .before .newest-queued .ensures)
+returns c = λ p ns g. rw (← c .before .newest-queued .ensures) (c .newest-buffered .ensures)
 
 pub read-spec : {M : Type 1} → statement M
 read-spec =

@@ -17,13 +17,15 @@ cast-if1 c = search needs
 
 returns : tie.Need-returns
 unfolding join fits
-returns c =     let a = c .before .before .args in
+returns c =
+    let a = c .before .before .args in
     let room : length (bufferIn (a .s) (a .t .0)) < 8 = omega arith in
     λ e ns g. rw (lt-ltb _ _ room)
 
 returns-2 : tie.Need-returns-2
 unfolding join fits
-returns-2 c =     let a = c .before .before .args in
+returns-2 c =
+    let a = c .before .before .args in
     let none : 8 ≤ length (bufferIn (a .s) (a .t .0)) = omega arith in
     λ e ns g. rw (le-ltb _ _ none)
 

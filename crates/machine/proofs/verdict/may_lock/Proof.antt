@@ -15,11 +15,11 @@ queue-room-requires c κs = search needs
 
 returns : tie.Need-returns
 unfolding locked when line wrote
-returns c =     λ p r v ns g. rw (sym (c .before .before .is-fenced .ensures ns g) ∙ c .before .if1 .taken) (c .queue-room .ensures _ ns _ _)
+returns c = λ p r v ns g. rw (sym (c .before .before .is-fenced .ensures ns g) ∙ c .before .if1 .taken) (c .queue-room .ensures _ ns _ _)
 
 returns-2 : tie.Need-returns-2
 unfolding locked when
-returns-2 c =     λ p r v ns g. rw (sym (c .before .is-fenced .ensures ns g) ∙ c .if1 .left)
+returns-2 c = λ p r v ns g. rw (sym (c .before .is-fenced .ensures ns g) ∙ c .if1 .left)
 
 pub may-lock-spec : {M : Type 1} → statement M
 may-lock-spec = tie.close (tie.spec is-fenced-requires queue-room-requires returns returns-2)

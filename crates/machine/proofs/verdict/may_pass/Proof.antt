@@ -24,22 +24,25 @@ overtakes-requires c κs = search needs
 
 returns : tie.Need-returns
 unfolding mayLeave
-returns c =     let b = c .before .before in
+returns c =
+    let b = c .before .before in
     λ p. rw (c .enum-told .given .1) (oldest (b .args .i) (bufferIn (b .args .s) (b .args .t .0)) (b .pre .1 .1))
 
 returns-2 : tie.Need-returns-2
 unfolding mayLeave
-returns-2 c =     let b = c .before .before in
+returns-2 c =
+    let b = c .before .before in
     λ p. rw (c .enum-told2 .given .1) (oldest (b .args .i) (bufferIn (b .args .s) (b .args .t .0)) (b .pre .1 .1))
 
 returns-3 : tie.Need-returns-3
 unfolding mayLeave
-returns-3 c =     let b = c .before .before in
+returns-3 c =
+    let b = c .before .before in
     λ p. rw (c .enum-told3 .given .1) (oldest (b .args .i) (bufferIn (b .args .s) (b .args .t .0)) (b .pre .1 .1))
 
 returns-4 : tie.Need-returns-4
 unfolding mayLeave
-returns-4 c =     λ p. c .overtakes .ensures p ∙ rw (c .before .before .e .given .1)
+returns-4 c = λ p. c .overtakes .ensures p ∙ rw (c .before .before .e .given .1)
 
 pub may-pass-spec : {M : Type 1} → statement M
 may-pass-spec =

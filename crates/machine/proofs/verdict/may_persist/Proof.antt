@@ -14,12 +14,14 @@ queue-len-requires : tie.Need-queue-len-requires
 queue-len-requires c κs = search needs
 
 returns : tie.Need-returns
-returns c =     let a = c .before .before .args in
+returns c =
+    let a = c .before .before .args in
     let none : length (queueIn (a .s) (a .l .0)) ≡ 0 = omega arith in
     λ ns g. persists-none (over (a .s) ns g) (a .l .0) (queueIn (a .s) (a .l .0)) none
 
 returns-2 : tie.Need-returns-2
-returns-2 c =     let a = c .before .before .args in
+returns-2 c =
+    let a = c .before .before .args in
     let some : 0 < length (queueIn (a .s) (a .l .0)) = omega arith in
     λ ns g. persists-some (over (a .s) ns g) (a .l .0) (queueIn (a .s) (a .l .0)) some
 

@@ -17,13 +17,15 @@ cast-if1 c = search needs
 
 returns : tie.Need-returns
 unfolding enqueue fits
-returns c =     let a = c .before .before .args in
+returns c =
+    let a = c .before .before .args in
     let room : length (queueIn (a .s) (a .l .0)) < 32 = omega arith in
     λ k ns g bs. rw (lt-ltb _ _ room)
 
 returns-2 : tie.Need-returns-2
 unfolding enqueue fits
-returns-2 c =     let a = c .before .before .args in
+returns-2 c =
+    let a = c .before .before .args in
     let none : 32 ≤ length (queueIn (a .s) (a .l .0)) = omega arith in
     λ k ns g bs. rw (le-ltb _ _ none)
 
