@@ -11,6 +11,10 @@ ghost use Rattle.px86.specs.Step.{join, enqueue, locked, does, next, mayLeave, 
 ghost use Rattle.state.specs.State.{machineOf, entryOf, queueIn, bufferIn, EntryIn, Valid};
 ghost use Rattle.machine.specs.Registers.{File};
 ghost use Rattle.machine.specs.Verdict.{verdictOf, Judges, JudgesAround, instruction};
+use crate::reads::all_clear;
+use crate::reads::is_fenced;
+use crate::reads::overtakes;
+use crate::reads::read;
 use names::Loc;
 use names::Thread;
 use program::Fetched;
@@ -21,10 +25,6 @@ use state::Entry;
 use state::State;
 use state::buffer_len;
 use state::queue_len;
-use crate::reads::all_clear;
-use crate::reads::is_fenced;
-use crate::reads::overtakes;
-use crate::reads::read;
 
 pub enum Verdict {
     Allowed,
