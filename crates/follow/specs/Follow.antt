@@ -13,7 +13,7 @@ abbrev pub four : List (List ℕ) → ℕ → List ℕ
 four g t = getD (getD g t []) 0 0 ∷ getD (getD g t []) 1 0 ∷ getD (getD g t []) 2 0 ∷ getD (getD g t []) 3 0 ∷ []
 
 -- "the memory, registers and places after it"; of a refusal "no state": all 0
-unfoldable pub reply : Told → Followed
+abbrev pub reply : Told → Followed
 reply (state m g ns) = record { outcome = After; memory = m; registers = four g 0 ++ four g 1 ++ four g 2 ++ four g 3; places = ns }
 reply (refused x) =
     record { outcome = Refused x; memory = replicate locations 0; registers = replicate (threads * registers) 0; places = replicate threads 0 }

@@ -76,7 +76,8 @@ pub fn follow(p: Program, codes: &[u8]) -> Followed
                 let n = step(p, g, s, c);
                 let load = n.load;
                 let next = n.state;
-                g = loaded(g, load);
+                let registers = loaded(g, load);
+                g = registers;
                 s = next;
             }
             Verdict::Barred => {

@@ -1,0 +1,3 @@
+-- What the proof of `follow` uses, and that its contract determines its answer.
+pub mod Following
+pub mod Unique

@@ -1,0 +1,60 @@
+// Shows the machine at work: a record and its flag (case 10 of document 01), step by step, and what is refused.
+use follow::Outcome;
+use follow::follow;
+use libc::STDOUT_FILENO;
+use names::Loc;
+use names::Thread;
+use program::Op;
+use program::Program;
+
+// Thread 0: the record is stored to location 0 and flushed without waiting, and the flag is stored to location 1.
+fn record_and_flag() -> Program {
+    let t = Thread(0);
+    let p = Program::empty(1, 2);
+    let q = p.with(t, Op::St(Loc(0), 1));
+    let r = q.with(t, Op::Fo(Loc(0)));
+    r.with(t, Op::St(Loc(1), 1))
+}
+
+// A line: what a power cut leaves after these codes, or why there is no such state.
+fn show(codes: &[u8]) {
+    let f = follow(record_and_flag(), codes);
+    io::write_all(STDOUT_FILENO, b"codes=");
+    io::print_decimal(STDOUT_FILENO, codes.len() as u64);
+    let memory = f.memory;
+    let o = f.outcome;
+    match o {
+        Outcome::After => {
+            io::write_all(STDOUT_FILENO, b" memory=");
+            io::print_decimal(STDOUT_FILENO, memory[0] as u64);
+            io::write_all(STDOUT_FILENO, b",");
+            io::print_decimal(STDOUT_FILENO, memory[1] as u64);
+        }
+        Outcome::Refused(x) => {
+            io::write_all(STDOUT_FILENO, b" refused number=");
+            io::print_decimal(STDOUT_FILENO, x.number() as u64);
+            io::write_all(STDOUT_FILENO, b" index=");
+            io::print_decimal(STDOUT_FILENO, x.value());
+        }
+    }
+    io::write_all(STDOUT_FILENO, b"\n");
+}
+
+fn main() {
+    // all three instructions, each entry leaves the buffer, and then the flag reaches memory before the record
+    let codes = [0u8, 0, 0, 16, 16, 16, 65];
+    show(&codes[..0]);
+    show(&codes[..1]);
+    show(&codes[..2]);
+    show(&codes[..3]);
+    show(&codes[..4]);
+    show(&codes[..5]);
+    show(&codes[..6]);
+    show(&codes);
+    // the fo may not overtake the store to its own location
+    let early = [0u8, 0, 17];
+    show(&early);
+    // no list is too long for an answer
+    let long = [0u8; 100000];
+    show(&long);
+}
