@@ -1,0 +1,3 @@
+-- Laws that the proofs of this crate cite.
+pub mod Allowed
+pub mod Codes
