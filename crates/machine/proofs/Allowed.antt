@@ -1,5 +1,5 @@
 -- What an allowed step says of the machine that takes it, and which machine it comes to. Assumes nothing.
-use Prim.Native.Nat.{ℕ, _+_, _%_, _<_}
+use Prim.Native.Nat.{ℕ, _+_, _%_, _≤_, _<_}
 use mathlib.Core.Path.{_≡_, refl, ap, sym, _∙_}
 use mathlib.Core.Bool.{Bool, true, false}
 use mathlib.Core.Option.{Option, none, some}
@@ -12,21 +12,29 @@ use lib.Dec.{ltb}
 use lib.ListN.{length, take, getElem?}
 use Rattle.names.specs.declared.Loc.{Loc}
 use Rattle.names.specs.declared.Reg.{Reg}
+use Rattle.names.specs.Names.{pick}
 use Rattle.tables.specs.Tables.{without}
 use Rattle.tables.proofs.Rows.{found-past}
 use Rattle.program.specs.Program.{Prog}
 use Rattle.program.specs.declared.Op.{Op}
-use Rattle.program.specs.declared.Op.the-variants.{Cas, Faa}
+use Rattle.program.specs.declared.Op.the-variants.{Cas, Faa, Mf}
 use Rattle.px86.specs.Machine.{Entry, Mark, Machine, line, place, buffer, queue, moved, wrote, buffered, queued}
 use Rattle.px86.specs.Machine.Entry.{fence, flush}
 use Rattle.px86.specs.Machine.Mark.{write, opt}
 use Rattle.px86.specs.Step.{Stepped, when, fits, either, empty, reads, allClear, fenced, join, enqueue, locked, does, next, mayLeave, goes, leaves, persists}
-use Rattle.px86.specs.Step.Stepped.{to}
+use Rattle.px86.specs.Step.Stepped.{to, barred}
 use Rattle.state.specs.State.{markOf, queueIn, machineOf, Is}
 use Rattle.state.specs.declared.State.{State}
 use Rattle.machine.specs.Registers.{File}
 use Rattle.machine.specs.Verdict.{verdictOf}
 use Rattle.machine.specs.declared.verdict.Verdict.the-variants.{Allowed}
+
+-- no step is both barred and allowed
+pub not-both : {x : Stepped} → x ≡ barred → verdictOf x ≡ Allowed → ⊥
+not-both e h =
+    let b = ap verdictOf (sym e) ∙ h in
+    let z : _≡_ {A = ℕ} 0 1 = cc in
+    omega arith
 
 -- a step that is only allowed where a test holds is that step, where it is allowed
 pub when-is : (b : Bool) (x : Stepped) → verdictOf (when b x) ≡ Allowed → when b x ≡ x
@@ -96,6 +104,17 @@ module _ (p : Prog) (m : Machine) (t : ℕ) (r : Reg) (l : Loc) (v : ℕ) (read 
   unfolding does
   faa-locks a = rw (← read)
 
+-- an mf that is done changes nothing but the place
+pub mf-is : (p : Prog) (m : Machine) (t : ℕ) → verdictOf (does p join m t Mf) ≡ Allowed → does p join m t Mf ≡ to m
+unfolding does
+mf-is p m t = when-is (fenced m t) (to m)
+
+-- a bz passes over no more than it names
+pub at-most : (b : Bool) (k : ℕ) → pick b k 0 ≤ k
+unfolding pick
+at-most true k = omega arith
+at-most false k = omega arith
+
 -- the next instruction of a thread is done in the machine whose place is moved on
 pub next-does :
     (p : Prog) (m n : Machine) (t : ℕ) (x : Option Op) (o : Op) → x ≡ some o → n ≡ moved m t (place m t + 1)
@@ -103,12 +122,9 @@ pub next-does :
 unfolding next
 next-does p m n t x o found same = rw (found, same, add-one)
 
-pub next-none : (p : Prog) (m : Machine) (t : ℕ) (x : Option Op) → x ≡ none → verdictOf (next p join m t x) ≡ Allowed → ⊥
+pub next-none : (p : Prog) (m : Machine) (t : ℕ) (x : Option Op) → x ≡ none → next p join m t x ≡ barred
 unfolding next
-next-none p m t x past h =
-    let b = rw past at h in
-    let z : _≡_ {A = ℕ} 0 1 = cc in
-    omega arith
+next-none p m t x past = rw past
 
 -- an entry that leaves a buffer is there
 pub leaves-there :
@@ -117,10 +133,7 @@ unfolding leaves
 leaves-there p m t i b h =
     elim (decLt i (length b)) [
       | yes q ↦ q
-      | no q ↦
-          let e = rw (found-past b i (omega arith)) at h in
-          let z : _≡_ {A = ℕ} 0 1 = cc in
-          absurd (omega arith)
+      | no q ↦ absurd (not-both {x = leaves p m t i (getElem? b i)} (rw (found-past b i (omega arith))) h)
     ]
 
 -- and goes where it goes, from the machine without it

@@ -1,13 +1,12 @@
 -- A step by its code, and that no step asks which program it is in but for the instruction. Assumes nothing.
 use Prim.Native.Nat.{ℕ, _-_, _/_, _%_, _<_, _≤_}
-use mathlib.Core.Path.{_≡_, refl, ap, _∙_}
-use mathlib.Core.Bool.{not, _&&_}
+use mathlib.Core.Path.{_≡_, refl}
 use mathlib.Core.Option.{Option, none, some}
 use mathlib.Core.List.{List, [], _∷_}
 use native.Mathlib.Decide.{decLt}
 use native.Mathlib.Omega.{arith}
 use borrow.Author.Tests.{lt-ltb, le-ltb}
-use lib.ListN.{length, getD, take, getElem?}
+use lib.ListN.{getD, take, getElem?}
 use Rattle.names.specs.Names.{pick}
 use Rattle.tables.specs.Tables.{without}
 use Rattle.program.specs.Program.{Prog}
@@ -15,12 +14,13 @@ use Rattle.program.specs.declared.Op.{Op}
 use Rattle.program.specs.declared.Op.the-variants.{St, Sr, Ld, Cas, Faa, Mf, Sf, Fl, Fo, Bz}
 use Rattle.px86.specs.Machine.{Entry, Machine, line, place, buffer, queue, buffered}
 use Rattle.px86.specs.Machine.Entry.{store, fence, flush, flushopt}
-use Rattle.px86.specs.Step.{Puts, when, reads, join, locked, does, next, blocks, passes, mayLeave, goes, leaves, persists, sort, sorted, step}
+use Rattle.px86.specs.Step.{Puts, reads, join, locked, does, next, blocks, passes, mayLeave, goes, leaves, persists, sort, sorted, step}
 use Rattle.px86.specs.Step.Stepped.{barred}
 use Rattle.px86.proofs.Codes.{sort-thread}
 use Rattle.px86.proofs.Lawful.{no-code}
 use Rattle.machine.specs.Verdict.{verdictOf}
 use Rattle.machine.specs.declared.verdict.Verdict.the-variants.{Allowed}
+use Rattle.machine.proofs.Allowed.{not-both}
 
 -- a program, where any will do
 abbrev pub noProg : Prog
@@ -53,20 +53,14 @@ module _ (p : Prog) (m : Machine) (c : ℕ) where
   pub from-16 : 4 ≤ c → verdictOf (step p m c) ≡ Allowed → 16 ≤ c
   from-16 h ok =
       elim (decLt c 16) [
-        | yes q ↦
-            let e = rw (no-leave h q) at ok in
-            let z : _≡_ {A = ℕ} 0 1 = cc in
-            absurd (omega arith)
+        | yes q ↦ absurd (not-both (no-leave h q) ok)
         | no q ↦ omega arith
       ]
 
   pub from-64 : 48 ≤ c → verdictOf (step p m c) ≡ Allowed → 64 ≤ c
   from-64 h ok =
       elim (decLt c 64) [
-        | yes q ↦
-            let e = rw (no-persist h q) at ok in
-            let z : _≡_ {A = ℕ} 0 1 = cc in
-            absurd (omega arith)
+        | yes q ↦ absurd (not-both (no-persist h q) ok)
         | no q ↦ omega arith
       ]
 
@@ -74,10 +68,7 @@ module _ (p : Prog) (m : Machine) (c : ℕ) where
   below-70 ok =
       elim (decLt c 70) [
         | yes q ↦ q
-        | no q ↦
-            let e = rw (no-code p m c (omega arith)) at ok in
-            let z : _≡_ {A = ℕ} 0 1 = cc in
-            absurd (omega arith)
+        | no q ↦ absurd (not-both (no-code p m c (omega arith)) ok)
       ]
 
 -- what an instruction does, and where an entry goes, is the same in every program, for a location is its own line in each

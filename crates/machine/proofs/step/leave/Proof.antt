@@ -26,17 +26,22 @@ held c =
     let count = buffer-count s (c .pre .0) t (c .pre .1 .0) in
     (there, omega arith, omega (arith, buffer-room s (c .pre .0) t))
 
+abbrev start : tie.After-buffer-remove → tie.Start
+start c = c .before .before .before .before
+
 -- what leaves is what is read, and goes from the state without it
 moves :
     (c : tie.After-buffer-remove) (p : Prog) (g : File)
-    → leaves p (machineOf (c .before .before .before .before .args .s) g) (c .before .before .before .before .args .t .0) (c .before .before .before .before .args .i) (getElem? (bufferIn (c .before .before .before .before .args .s) (c .before .before .before .before .args .t .0)) (c .before .before .before .before .args .i))
-    ≡ goes p (machineOf (c .buffer-remove .result) g) (c .before .before .before .before .args .t .0) (entryIn (getD (c .before .before .before .before .args .s .buffered) (c .before .before .before .before .args .t .0 * 8 + c .before .before .before .before .args .i) noSlot))
+    → leaves p (machineOf (start c .args .s) g) (start c .args .t .0) (start c .args .i) (getElem? (bufferIn (start c .args .s) (start c .args .t .0)) (start c .args .i))
+    ≡ goes p (machineOf (c .buffer-remove .result) g) (start c .args .t .0) (entryIn (getD (start c .args .s .buffered) (start c .args .t .0 * 8 + start c .args .i) noSlot))
 moves c p g =
-    let b = c .before .before .before .before in
+    let b = start c in
     let s = b .args .s in
     let t = b .args .t .0 in
     let i = b .args .i in
-    leaves-goes p (machineOf s g) (machineOf (c .buffer-remove .result) g) t i (getElem? (bufferIn s t) i) (entryIn (getD (s .buffered) (t * 8 + i) noSlot)) (entry-there s (b .pre .0) t (b .pre .1 .0) i (held b .1)) (c .buffer-remove .ensures .stands g) (b .pre .1 .1 p g)
+    let e = entryIn (getD (s .buffered) (t * 8 + i) noSlot) in
+    let there = entry-there s (b .pre .0) t (b .pre .1 .0) i (held b .1) in
+    leaves-goes p (machineOf s g) (machineOf (c .buffer-remove .result) g) t i (getElem? (bufferIn s t) i) e there (c .buffer-remove .ensures .stands g) (b .pre .1 .1 p g)
 
 cast-at : tie.Need-cast-at
 cast-at c = search needs
@@ -60,9 +65,8 @@ buffer-remove-requires c κs =
 
 gone-requires : tie.Need-gone-requires
 gone-requires c κs =
-    let b = c .before .before .before .before in
-    let at = b .args .t .0 * 8 + b .args .i in
-    (
+    let b = start c in
+    let at = b .args .t .0 * 8 + b .args .i in (
       c .buffer-remove .ensures .valid,
       (
         (b .pre .1 .0, entry-in (b .args .s) (b .pre .0) at),

@@ -1,7 +1,7 @@
 -- `machine::step::persist` meets its contract: the slot that is read is the oldest entry's, an fo from the first of those on and a write
 -- below, and the state after the pop, and after the write to memory, stands for the machine of that clause. Assumes nothing.
+use Prim.Native.Nat.{_*_, _/_, _%_, _<_}
 use mathlib.Core.Path.{ap, sym, _∙_}
-use Prim.Native.Nat.{_*_, _/_, _%_, _≤_, _<_}
 use native.Mathlib.Omega.{arith}
 use lib.ListN.{getD}
 use Rattle.px86.specs.Machine.{Machine, persisted}
