@@ -1,3 +1,6 @@
--- Laws of what a thread reads, and of the verdict on a step, which the proofs of this crate cite.
+-- Laws that the proofs of this crate cite.
 pub mod Reading
 pub mod Judging
+pub mod Allowed
+pub mod Fetching
+pub mod Codes

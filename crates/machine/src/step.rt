@@ -1,8 +1,7 @@
 // The step that an allowed code takes.
 ghost use mathlib.Core.Path.{_≡_};
 ghost use mathlib.Core.Bool.{true};
-ghost use mathlib.Core.List.{List, []};
-ghost use Prim.Native.Nat.{ℕ, _+_, _-_, _%_, _<_};
+ghost use Prim.Native.Nat.{_+_, _-_, _%_, _<_};
 ghost use lib.Dec.{eqb};
 ghost use lib.ListN.{length, getD, getElem?};
 ghost use Rattle.names.specs.Names.{pick};
@@ -17,6 +16,10 @@ ghost use Rattle.state.specs.State.{machineOf, entryOf, queueIn, bufferIn, Entr
 ghost use Rattle.machine.specs.Registers.{File};
 ghost use Rattle.machine.specs.Verdict.{verdictOf, instruction};
 ghost use Rattle.machine.specs.Taken.{Takes, Comes};
+use crate::reads::read;
+use crate::registers::Load;
+use crate::registers::register_of;
+use crate::verdict::Verdict;
 use names::Loc;
 use names::Reg;
 use names::Thread;
@@ -34,10 +37,6 @@ use state::queue_pop;
 use state::queue_push;
 use state::set_memory;
 use state::write_slot;
-use crate::reads::read;
-use crate::registers::Load;
-use crate::registers::register_of;
-use crate::verdict::Verdict;
 
 // The state after a step, and what the step loads.
 pub struct Next {
