@@ -4,5 +4,5 @@ use Rattle.names.specs.Once.{Once}
 use Rattle.follow.proofs.follow.Kinds as kinds
 use Rattle.follow.proofs.follow.Reads as reads
 
-pub follow-once : Once 0 kinds.ps kinds.r reads.Post
+pub follow-once : Once 1 kinds.ps kinds.r reads.Post
 follow-once κs a x y e f p q = p ∙ sym q

@@ -14,7 +14,7 @@ use Rattle.names.specs.declared.Loc.{Loc}
 use Rattle.names.specs.declared.Reg.{Reg}
 use Rattle.names.specs.Names.{pick}
 use Rattle.tables.specs.Tables.{without}
-use Rattle.tables.proofs.Rows.{found-past}
+use Rattle.tables.proofs.Found.{found-past}
 use Rattle.program.specs.Program.{Prog}
 use Rattle.program.specs.declared.Op.{Op}
 use Rattle.program.specs.declared.Op.the-variants.{Cas, Faa, Mf}

@@ -8,7 +8,7 @@ use mathlib.Core.List.{[]}
 use native.Mathlib.Omega.{arith}
 use lib.ListN.{length, getD, getElem?}
 use lib.Seq.{getD-set-same}
-use Rattle.tables.proofs.Rows.{found-below}
+use Rattle.tables.proofs.Found.{found-below}
 use Rattle.program.specs.Program.{fetchedOf}
 use Rattle.program.specs.Legal.{legal}
 use Rattle.program.specs.Kept.{threadAt, Fits}

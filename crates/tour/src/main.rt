@@ -16,6 +16,10 @@ fn record_and_flag() -> Program {
     r.with(t, Op::St(Loc(1), 1))
 }
 
+fn print_byte(n: u8) {
+    io::print_decimal(STDOUT_FILENO, n as u64);
+}
+
 // A line: what a power cut leaves after these codes, or why there is no such state.
 fn show(codes: &[u8]) {
     let f = follow(record_and_flag(), codes);
@@ -26,13 +30,13 @@ fn show(codes: &[u8]) {
     match o {
         Outcome::After => {
             io::write_all(STDOUT_FILENO, b" memory=");
-            io::print_decimal(STDOUT_FILENO, memory[0] as u64);
+            print_byte(memory[0]);
             io::write_all(STDOUT_FILENO, b",");
-            io::print_decimal(STDOUT_FILENO, memory[1] as u64);
+            print_byte(memory[1]);
         }
         Outcome::Refused(x) => {
             io::write_all(STDOUT_FILENO, b" refused number=");
-            io::print_decimal(STDOUT_FILENO, x.number() as u64);
+            print_byte(x.number());
             io::write_all(STDOUT_FILENO, b" index=");
             io::print_decimal(STDOUT_FILENO, x.value());
         }
