@@ -13,13 +13,13 @@ use Rattle.px86.specs.Step.Stepped.{to, barred, full}
 use Rattle.px86.specs.Runs.{follow}
 use Rattle.px86.specs.Runs.Followed.{at, stopped, noPlace}
 use Rattle.px86.proofs.Follow.{follow-nil, follow-to, follow-barred, follow-full}
-use Rattle.state.specs.State.{machineOf, Valid, Starts, noRegisters}
+use Rattle.state.specs.State.{File, machineOf, Valid, Starts, noRegisters}
 use Rattle.state.specs.declared.State.{State}
-use Rattle.machine.specs.Registers.{File, loadedOf}
-use Rattle.machine.specs.Verdict.{verdictOf}
+use Rattle.machine.specs.Registers.{loadedOf}
+use Rattle.verdict.specs.Verdict.{verdictOf}
 use Rattle.machine.specs.Taken.{Takes}
 use Rattle.machine.specs.declared.step.Next.{Next}
-use Rattle.machine.specs.declared.verdict.Verdict.the-variants.{Allowed, Barred, NoRoom}
+use Rattle.verdict.specs.declared.Verdict.the-variants.{Allowed, Barred, NoRoom}
 
 -- a step that is judged so is so
 pub is-barred : (x : Stepped) → verdictOf x ≡ Barred → x ≡ barred

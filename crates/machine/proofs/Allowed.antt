@@ -25,9 +25,9 @@ use Rattle.px86.specs.Step.{Stepped, when, fits, either, empty, reads, allClear
 use Rattle.px86.specs.Step.Stepped.{to, barred}
 use Rattle.state.specs.State.{markOf, queueIn, machineOf, Is}
 use Rattle.state.specs.declared.State.{State}
-use Rattle.machine.specs.Registers.{File}
-use Rattle.machine.specs.Verdict.{verdictOf}
-use Rattle.machine.specs.declared.verdict.Verdict.the-variants.{Allowed}
+use Rattle.state.specs.State.{File}
+use Rattle.verdict.specs.Verdict.{verdictOf}
+use Rattle.verdict.specs.declared.Verdict.the-variants.{Allowed}
 
 -- no step is both barred and allowed
 pub not-both : {x : Stepped} → x ≡ barred → verdictOf x ≡ Allowed → ⊥

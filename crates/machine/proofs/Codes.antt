@@ -1,4 +1,4 @@
--- A step by its code, and that no step asks which program it is in but for the instruction. Assumes nothing.
+-- Where an allowed code lies, and that no step asks which program it is in but for the instruction. Assumes nothing.
 use Prim.Native.Nat.{ℕ, _-_, _/_, _%_, _<_, _≤_}
 use mathlib.Core.Path.{_≡_, refl}
 use mathlib.Core.Option.{Option, none, some}
@@ -16,10 +16,10 @@ use Rattle.px86.specs.Machine.{Entry, Machine, line, place, buffer, queue, buff
 use Rattle.px86.specs.Machine.Entry.{store, fence, flush, flushopt}
 use Rattle.px86.specs.Step.{Puts, reads, join, locked, does, next, blocks, passes, mayLeave, goes, leaves, persists, sort, sorted, step}
 use Rattle.px86.specs.Step.Stepped.{barred}
-use Rattle.px86.proofs.Codes.{sort-thread}
+use Rattle.px86.proofs.Codes.{no-leave, no-persist}
 use Rattle.px86.proofs.Lawful.{no-code}
-use Rattle.machine.specs.Verdict.{verdictOf}
-use Rattle.machine.specs.declared.verdict.Verdict.the-variants.{Allowed}
+use Rattle.verdict.specs.Verdict.{verdictOf}
+use Rattle.verdict.specs.declared.Verdict.the-variants.{Allowed}
 use Rattle.machine.proofs.Allowed.{not-both}
 
 -- a program, where any will do
@@ -27,40 +27,18 @@ abbrev pub noProg : Prog
 noProg = record { threads = []; locs = 0 }
 
 module _ (p : Prog) (m : Machine) (c : ℕ) where
-  pub step-thread : c < 4 → step p m c ≡ next p join m c (getElem? (getD (p .threads) c []) (place m c))
-  unfolding step sorted
-  step-thread h = rw (sort-thread c h)
-
-  pub step-leave :
-      16 ≤ c → c < 48 → step p m c ≡ leaves p m ((c - 16) / 8) ((c - 16) % 8) (getElem? (buffer m ((c - 16) / 8)) ((c - 16) % 8))
-  unfolding step sorted sort pick
-  step-leave h k = rw (le-ltb c 4 (omega arith), le-ltb c 16 h, lt-ltb c 48 k)
-
-  pub step-persist : 64 ≤ c → c < 70 → step p m c ≡ persists m (c - 64) (queue m (c - 64))
-  unfolding step sorted sort pick
-  step-persist h k = rw (le-ltb c 4 (omega arith), le-ltb c 16 (omega arith), le-ltb c 48 (omega arith), le-ltb c 64 h, lt-ltb c 70 k)
-
-  -- no code stands between the sorts
-  pub no-leave : 4 ≤ c → c < 16 → step p m c ≡ barred
-  unfolding step sorted sort pick
-  no-leave h k = rw (le-ltb c 4 h, lt-ltb c 16 k)
-
-  pub no-persist : 48 ≤ c → c < 64 → step p m c ≡ barred
-  unfolding step sorted sort pick
-  no-persist h k = rw (le-ltb c 4 (omega arith), le-ltb c 16 (omega arith), le-ltb c 48 h, lt-ltb c 64 k)
-
-  -- so an allowed code that is not a thread's is 16 or more, and one that is not an entry's is a queue's
+  -- an allowed code that is not a thread's is 16 or more, and one that is not an entry's is a queue's
   pub from-16 : 4 ≤ c → verdictOf (step p m c) ≡ Allowed → 16 ≤ c
   from-16 h ok =
       elim (decLt c 16) [
-        | yes q ↦ absurd (not-both (no-leave h q) ok)
+        | yes q ↦ absurd (not-both (no-leave p m c h q) ok)
         | no q ↦ omega arith
       ]
 
   pub from-64 : 48 ≤ c → verdictOf (step p m c) ≡ Allowed → 64 ≤ c
   from-64 h ok =
       elim (decLt c 64) [
-        | yes q ↦ absurd (not-both (no-persist h q) ok)
+        | yes q ↦ absurd (not-both (no-persist p m c h q) ok)
         | no q ↦ omega arith
       ]
 

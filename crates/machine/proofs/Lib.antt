@@ -1,6 +1,4 @@
 -- Laws that the proofs of this crate cite.
-pub mod Reading
-pub mod Judging
 pub mod Allowed
-pub mod Fetching
+pub mod Moving
 pub mod Codes

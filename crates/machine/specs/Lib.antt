@@ -1,4 +1,3 @@
 -- What the contracts of this crate cite.
 pub mod Registers
-pub mod Verdict
 pub mod Taken

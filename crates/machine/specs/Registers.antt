@@ -3,11 +3,9 @@ use Prim.Native.Nat.{ℕ, _<_}
 use mathlib.Core.List.{List, []}
 use lib.ListN.{getD, set}
 use Rattle.names.specs.Names.{threads, registers}
+use Rattle.state.specs.State.{File}
 use Rattle.machine.specs.declared.registers.Load.{Load}
 use Rattle.machine.specs.declared.registers.Load.the-variants.{Nothing, Into}
-
-abbrev pub File : Type 0
-File = List (List ℕ)
 
 abbrev pub registerIn : File → ℕ → ℕ → ℕ
 registerIn g t r = getD (getD g t []) r 0

@@ -2,9 +2,9 @@
 use mathlib.Core.Path.{_≡_}
 use Rattle.px86.specs.Step.{Stepped}
 use Rattle.px86.specs.Step.Stepped.{to}
-use Rattle.state.specs.State.{machineOf, Valid}
+use Rattle.state.specs.State.{File, machineOf, Valid}
 use Rattle.state.specs.declared.State.{State}
-use Rattle.machine.specs.Registers.{File, loadedOf, LoadIn}
+use Rattle.machine.specs.Registers.{loadedOf, LoadIn}
 use Rattle.machine.specs.declared.step.Next.{Next}
 
 -- the step x, from the registers g, comes to the state and the load of r

@@ -1,5 +1,3 @@
-// The machine in code: what a thread reads, whether a code is allowed, and the step that it takes.
-pub mod reads;
+// The step that an allowed code takes, and the registers beside the state.
 pub mod registers;
 pub mod step;
-pub mod verdict;

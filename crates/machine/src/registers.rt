@@ -2,7 +2,7 @@
 ghost use mathlib.Core.Path.{_≡_};
 ghost use Prim.Native.Nat.{_<_};
 ghost use Rattle.state.specs.State.{noRegisters};
-ghost use Rattle.machine.specs.Registers.{File, registerIn, withRegister, loadedOf, LoadIn};
+ghost use Rattle.machine.specs.Registers.{registerIn, withRegister, loadedOf, LoadIn};
 use names::Reg;
 use names::Thread;
 

@@ -9,7 +9,7 @@ use borrow.Author.Tests.{leb-true, ltb-true}
 use lib.Dec.{leb}
 use lib.ListN.{length, getD, getElem?}
 use lib.Seq.{getD-take}
-use Rattle.names.specs.Names.{threads, registers, isReg}
+use Rattle.names.specs.Names.{threads, locations, registers, isReg}
 use Rattle.tables.proofs.Found.{found-below}
 use Rattle.program.specs.Program.{progOf, countsOf, mostOps, fetchedOf}
 use Rattle.program.specs.Legal.{legalOp, legalOps, legalThreads, legalSizes, legalProg, allBelow, legal}
@@ -19,7 +19,7 @@ use Rattle.program.specs.declared.Op.the-variants.{St, Sr, Ld, Cas, Faa,
 use Rattle.program.specs.declared.Program.{Program}
 use Rattle.program.specs.declared.Fetched.{Fetched}
 use Rattle.program.specs.declared.Fetched.the-variants.{Found}
-use Rattle.program.proofs.Threads.{no-more, threads-length, found-some}
+use Rattle.program.proofs.Threads.{no-more, threads-length}
 use Rattle.program.proofs.Tests.{both, two-below, below-all, sizes, within}
 
 -- a legal instruction fits its place
@@ -40,18 +40,18 @@ legal-fits locs n k (Bz r d) below h =
     let within : d ≤ n - suc k = leb-true d (n - suc k) (s .1) in
     (ltb-true (r .0) registers named, omega arith)
 
--- what fits fewer locations fits more
-pub fits-more : (locs most n k : ℕ) (o : Op) → locs ≤ most → Fits locs n k o → Fits most n k o
-fits-more locs most n k (St l v) h f = omega arith
-fits-more locs most n k (Sr l r) h f = (omega arith, f .1)
-fits-more locs most n k (Ld r l) h f = (f .0, omega arith)
-fits-more locs most n k (Cas r l e v) h f = (f .0, omega arith)
-fits-more locs most n k (Faa r l v) h f = (f .0, omega arith)
-fits-more locs most n k Mf h f = tt
-fits-more locs most n k Sf h f = tt
-fits-more locs most n k (Fl l) h f = omega arith
-fits-more locs most n k (Fo l) h f = omega arith
-fits-more locs most n k (Bz r d) h f = f
+-- what fits fewer locations and a shorter thread fits more of both
+fits-more : (locs most n long k : ℕ) (o : Op) → locs ≤ most → n ≤ long → Fits locs n k o → Fits most long k o
+fits-more locs most n long k (St l v) h i f = omega arith
+fits-more locs most n long k (Sr l r) h i f = (omega arith, f .1)
+fits-more locs most n long k (Ld r l) h i f = (f .0, omega arith)
+fits-more locs most n long k (Cas r l e v) h i f = (f .0, omega arith)
+fits-more locs most n long k (Faa r l v) h i f = (f .0, omega arith)
+fits-more locs most n long k Mf h i f = tt
+fits-more locs most n long k Sf h i f = tt
+fits-more locs most n long k (Fl l) h i f = omega arith
+fits-more locs most n long k (Fo l) h i f = omega arith
+fits-more locs most n long k (Bz r d) h i f = (f .0, omega arith)
 
 -- each instruction of a legal thread is legal
 pub ops-all :
@@ -113,11 +113,14 @@ module _ (p : Program) (h : legal p ≡ true) where
         fits = λ t k o e. legal-fits (p .locs) (length (threadAt p t)) k o (found-below (threadAt p t) k o e) (found-legal t k o e);
       }
 
-  -- the instruction that `op_at` finds fits its place
-  pub fetched-fits :
-      (t k : ℕ) (r : Fetched) (o : Op) → r ≡ fetchedOf (getElem? (threadAt p t) k) → r ≡ Found o
-      → Fits (p .locs) (length (threadAt p t)) k o
-  fetched-fits t k r o e f = kept .fits t k o (found-some (getElem? (threadAt p t) k) r o e f)
+  -- an instruction of it names only what is there, and passes over nothing behind the last place that a thread can have
+  module _ (t k : ℕ) (o : Op) (found : getElem? (threadAt p t) k ≡ some o) where
+    pub found-fits : Fits locations mostOps k o
+    found-fits =
+        fits-more (p .locs) locations (length (threadAt p t)) mostOps k o (kept .few-locs) (kept .short t) (kept .fits t k o found)
+
+    pub found-place : k < mostOps
+    found-place = omega (arith, found-below (threadAt p t) k o found, kept .short t)
 
   -- there are as many threads as the program says, and each is as long as its count
   pub legal-width : Sized p → length (progOf p .threads) ≡ p .threads

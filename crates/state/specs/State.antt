@@ -34,6 +34,10 @@ entryIn x = entryOf (x .entry)
 abbrev pub noSlot : Slot
 noSlot = record { entry = Fence }
 
+-- the register file: for each thread the list of its registers
+abbrev pub File : Type 0
+File = List (List ℕ)
+
 -- the queues and the buffers of a state, and the machine that it stands for with the registers g
 unfoldable pub queuesIn : State → List (List Mark)
 queuesIn s = map (map markOf) (rows queueRoom (s .queued) (s .queues))
@@ -47,7 +51,7 @@ queueIn s n = getD (queuesIn s) n []
 abbrev pub bufferIn : State → ℕ → List PxEntry
 bufferIn s t = getD (buffersIn s) t []
 
-abbrev pub machineOf : State → List (List ℕ) → Machine
+abbrev pub machineOf : State → File → Machine
 machineOf s g = record { places = s .places; registers = g; buffers = buffersIn s; queues = queuesIn s; memory = s .memory }
 
 -- an entry names a location that is there
@@ -67,12 +71,12 @@ pub record Valid (s : State) : Type 0 where
   pub memory : length (s .memory) ≡ locations
 
 -- what a function that changes the state owes: a valid state that stands for the machine f, whatever the registers
-pub record Is (f : List (List ℕ) → Machine) (r : State) : Type 0 where
+pub record Is (f : File → Machine) (r : State) : Type 0 where
   pub valid : Valid r
-  pub stands : (g : List (List ℕ)) → machineOf r g ≡ f g
+  pub stands : (g : File) → machineOf r g ≡ f g
 
 -- the register file before the first step
-abbrev pub noRegisters : List (List ℕ)
+abbrev pub noRegisters : File
 noRegisters = replicate threads (replicate registers 0)
 
 -- the state before the first step

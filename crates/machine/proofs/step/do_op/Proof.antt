@@ -10,7 +10,7 @@ use Rattle.px86.specs.Machine.Entry.{store, fence, flush, flushopt}
 use Rattle.px86.specs.Step.{join, does}
 use Rattle.state.specs.State.{machineOf, bufferIn}
 use Rattle.machine.specs.Registers.{registerIn}
-use Rattle.machine.specs.Verdict.{verdictOf}
+use Rattle.verdict.specs.Verdict.{verdictOf}
 use Rattle.machine.proofs.Allowed.{join-room, mf-is, at-most}
 use Rattle.machine.proofs.Codes.{noProg}
 use borrow.Author.Needs.{needs}

@@ -4,7 +4,7 @@ use Prim.Native.Nat.{_+_, _%_}
 use mathlib.Core.Path.{ap, sym, _∙_}
 use mathlib.Core.List.{[]}
 use Rattle.state.specs.State.{machineOf}
-use Rattle.machine.specs.Verdict.{verdictOf}
+use Rattle.verdict.specs.Verdict.{verdictOf}
 use Rattle.machine.proofs.Allowed.{locked-is, locked-room, faa-locks}
 use Rattle.machine.proofs.Codes.{noProg}
 use borrow.Author.Needs.{needs}

@@ -9,8 +9,8 @@ use Rattle.program.specs.Program.{Prog}
 use Rattle.px86.specs.Step.{goes, leaves}
 use Rattle.state.specs.State.{machineOf, entryIn, bufferIn, noSlot}
 use Rattle.state.proofs.Reading.{buffer-count, buffer-room, entry-there, entry-in}
-use Rattle.machine.specs.Registers.{File}
-use Rattle.machine.specs.Verdict.{verdictOf}
+use Rattle.state.specs.State.{File}
+use Rattle.verdict.specs.Verdict.{verdictOf}
 use Rattle.machine.proofs.Allowed.{leaves-there, leaves-goes}
 use Rattle.machine.proofs.Codes.{noProg}
 use borrow.Author.Needs.{needs}

@@ -7,9 +7,10 @@ use native.Mathlib.Omega.{arith}
 use lib.ListN.{getElem?}
 use Rattle.program.specs.Program.{progOf}
 use Rattle.state.specs.State.{machineOf, queueIn, bufferIn}
-use Rattle.machine.specs.Verdict.{verdictOf}
+use Rattle.verdict.specs.Verdict.{verdictOf}
 use Rattle.machine.proofs.Allowed.{persists-some}
-use Rattle.machine.proofs.Codes.{step-thread, step-leave, step-persist, from-16, from-64, below-70, leaves-same}
+use Rattle.px86.proofs.Codes.{step-thread, step-leave, step-persist}
+use Rattle.machine.proofs.Codes.{from-16, from-64, below-70, leaves-same}
 use borrow.Author.Needs.{needs}
 use Rattle.machine.proofs.step.step.Statement.{statement}
 use Rattle.machine.proofs.step.step.Tie as tie

@@ -9,10 +9,12 @@ use lib.ListN.{length, getD}
 use Rattle.program.specs.Program.{progOf}
 use Rattle.px86.specs.Step.{join, does, next}
 use Rattle.state.specs.State.{machineOf}
-use Rattle.machine.specs.Registers.{File}
-use Rattle.machine.specs.Verdict.{verdictOf, instruction}
+use Rattle.state.specs.State.{File}
+use Rattle.verdict.specs.Verdict.{verdictOf, instruction}
 use Rattle.machine.proofs.Allowed.{not-both, next-does, next-none}
-use Rattle.machine.proofs.Fetching.{found-fits, found-place, fetched-some, fetched-none, moved-to}
+use Rattle.program.proofs.Threads.{found-some, past-none}
+use Rattle.program.proofs.Legal.{found-fits, found-place}
+use Rattle.machine.proofs.Moving.{moved-to}
 use Rattle.machine.proofs.Codes.{does-same}
 use borrow.Author.Needs.{needs}
 use Rattle.machine.proofs.step.step_thread.Statement.{statement}
@@ -23,7 +25,7 @@ start c = c .before .before .before .before .before .before
 
 -- the instruction that is found
 found : (c : tie.After-known-told) → instruction (start c .args .p) (start c .args .s) (start c .args .t .0) ≡ some (c .before .f .given .0 .0)
-found c = fetched-some _ _ (sym (c .before .before .before .op-at .ensures) ∙ c .before .f .given .1)
+found c = found-some _ _ _ (c .before .before .before .op-at .ensures) (c .before .f .given .1)
 
 -- the machine does it from the state whose place is moved on
 done :
@@ -89,7 +91,7 @@ returns-2 c =
     let d = c .before .before .before in
     let b = d .before .before .before in
     let a = b .args in
-    let past = fetched-none _ (sym (d .op-at .ensures) ∙ c .before .enum-told .given .1) in
+    let past = past-none _ _ (d .op-at .ensures) (c .before .enum-told .given .1) in
     let none-there = next-none (progOf (a .p)) (machineOf (a .s) (a .regs)) (a .t .0) (instruction (a .p) (a .s) (a .t .0)) past in
     absurd (not-both none-there (b .pre .1 .1 .1 (a .regs)))
 
