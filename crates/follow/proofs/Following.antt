@@ -1,6 +1,6 @@
 -- The loop of `follow`: what is left to be followed from the state in hand gives what the whole list gives from the start. Assumes nothing.
 use mathlib.Core.Path.{_≡_, refl, ap, sym, _∙_}
-use mathlib.Core.List.{List, []}
+use mathlib.Core.List.{List}
 use Prim.Native.Nat.{ℕ, suc, _+_, _<_, _≤_}
 use native.Mathlib.Numerals.{add-one}
 use native.Mathlib.Omega.{arith}
@@ -19,7 +19,7 @@ use Rattle.machine.specs.Registers.{loadedOf}
 use Rattle.verdict.specs.Verdict.{verdictOf}
 use Rattle.machine.specs.Taken.{Takes}
 use Rattle.machine.specs.declared.step.Next.{Next}
-use Rattle.verdict.specs.declared.Verdict.the-variants.{Allowed, Barred, NoRoom}
+use Rattle.verdict.specs.declared.Verdict.the-variants.{Barred, NoRoom}
 
 -- a step that is judged so is so
 pub is-barred : (x : Stepped) → verdictOf x ≡ Barred → x ≡ barred

@@ -6,12 +6,12 @@ ghost use Rattle.follow.specs.Follow.{reply};
 use machine::registers::loaded;
 use machine::registers::no_registers;
 use machine::step::step;
-use verdict::Verdict;
-use verdict::judge;
 use program::Program;
 use program::is_legal;
 use px86::Refusal;
 use state::State;
+use verdict::Verdict;
+use verdict::judge;
 
 // Whether there is a state after the codes, or why not.
 pub enum Outcome {

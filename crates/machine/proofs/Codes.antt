@@ -1,21 +1,18 @@
 -- Where an allowed code lies, and that no step asks which program it is in but for the instruction. Assumes nothing.
-use Prim.Native.Nat.{ℕ, _-_, _/_, _%_, _<_, _≤_}
+use Prim.Native.Nat.{ℕ, _-_, _<_, _≤_}
 use mathlib.Core.Path.{_≡_, refl}
 use mathlib.Core.Option.{Option, none, some}
 use mathlib.Core.List.{List, [], _∷_}
 use native.Mathlib.Decide.{decLt}
 use native.Mathlib.Omega.{arith}
-use borrow.Author.Tests.{lt-ltb, le-ltb}
-use lib.ListN.{getD, take, getElem?}
-use Rattle.names.specs.Names.{pick}
+use lib.ListN.{take}
 use Rattle.tables.specs.Tables.{without}
 use Rattle.program.specs.Program.{Prog}
 use Rattle.program.specs.declared.Op.{Op}
 use Rattle.program.specs.declared.Op.the-variants.{St, Sr, Ld, Cas, Faa, Mf, Sf, Fl, Fo, Bz}
-use Rattle.px86.specs.Machine.{Entry, Machine, line, place, buffer, queue, buffered}
+use Rattle.px86.specs.Machine.{Entry, Machine, line, buffer, buffered}
 use Rattle.px86.specs.Machine.Entry.{store, fence, flush, flushopt}
-use Rattle.px86.specs.Step.{Puts, reads, join, locked, does, next, blocks, passes, mayLeave, goes, leaves, persists, sort, sorted, step}
-use Rattle.px86.specs.Step.Stepped.{barred}
+use Rattle.px86.specs.Step.{Puts, reads, locked, does, blocks, passes, mayLeave, goes, leaves, step}
 use Rattle.px86.proofs.Codes.{no-leave, no-persist}
 use Rattle.px86.proofs.Lawful.{no-code}
 use Rattle.verdict.specs.Verdict.{verdictOf}

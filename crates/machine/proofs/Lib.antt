@@ -2,3 +2,4 @@
 pub mod Allowed
 pub mod Moving
 pub mod Codes
+pub mod Unique

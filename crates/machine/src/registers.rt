@@ -30,7 +30,7 @@ pub fn register_of(regs: [[u8; 4]; 4], t: Thread, r: Reg) -> u8
 }
 
 // Register r of t holds v now.
-pub fn with_register(regs: [[u8; 4]; 4], t: Thread, r: Reg, v: u8) -> [[u8; 4]; 4]
+fn with_register(regs: [[u8; 4]; 4], t: Thread, r: Reg, v: u8) -> [[u8; 4]; 4]
     requires { ⌜ (t .0 < 4) × (r .0 < 4) ⌝ }
     ensures { λ x. ⌜ x ≡ withRegister regs (t .0) (r .0) v ⌝ }
 {

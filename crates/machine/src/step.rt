@@ -16,10 +16,8 @@ ghost use Rattle.state.specs.State.{machineOf, entryOf, queueIn, bufferIn, Entr
 ghost use Rattle.state.specs.State.{File};
 ghost use Rattle.verdict.specs.Verdict.{verdictOf, instruction};
 ghost use Rattle.machine.specs.Taken.{Takes, Comes};
-use verdict::reads::read;
 use crate::registers::Load;
 use crate::registers::register_of;
-use verdict::Verdict;
 use names::Loc;
 use names::Reg;
 use names::Thread;
@@ -37,6 +35,8 @@ use state::queue_pop;
 use state::queue_push;
 use state::set_memory;
 use state::write_slot;
+use verdict::Verdict;
+use verdict::reads::read;
 
 // The state after a step, and what the step loads.
 pub struct Next {
@@ -45,21 +45,21 @@ pub struct Next {
 }
 
 // The sum of two bytes modulo 256.
-pub fn sum(a: u8, b: u8) -> u8
+fn sum(a: u8, b: u8) -> u8
     ensures { λ r. ⌜ r ≡ (a + b) % 256 ⌝ }
 {
     ((a as u16 + b as u16) % 256) as u8
 }
 
 // How many instructions a bz passes over.
-pub fn skip(v: u8, k: u8) -> u8
+fn skip(v: u8, k: u8) -> u8
     ensures { λ r. ⌜ r ≡ pick (eqb v 0) k 0 ⌝ }
 {
     if v == 0 { k } else { 0 }
 }
 
 // The entry e joins the buffer of t.
-pub fn joined(s: State, t: Thread, e: Entry) -> Next
+fn joined(s: State, t: Thread, e: Entry) -> Next
     requires { ⌜ Valid s ⌝ }
     requires { ⌜ (t .0 < 4) × (length (bufferIn s (t .0)) < 8) × EntryIn e ⌝ }
     ensures { λ r. ⌜ ((g : File) → Takes (join (machineOf s g) (t .0) (entryOf e)) g r) ⌝ }
@@ -72,7 +72,7 @@ pub fn joined(s: State, t: Thread, e: Entry) -> Next
 }
 
 // A locked write of `new` to l by t, whose register r gets `old`.
-pub fn lock(s: State, t: Thread, r: Reg, l: Loc, old: u8, new: u8) -> Next
+fn lock(s: State, t: Thread, r: Reg, l: Loc, old: u8, new: u8) -> Next
     requires { ⌜ Valid s ⌝ }
     requires { ⌜ (t .0 < 4) × (r .0 < 4) × (l .0 < 6) × (length (queueIn s (l .0)) < 32) ⌝ }
     ensures { λ x. ⌜ ((g : File) → Takes (enqueue (wrote (machineOf s g) (t .0) (r .0) old) (l .0) (write (l .0) new)) g x) ⌝ }
@@ -86,7 +86,7 @@ pub fn lock(s: State, t: Thread, r: Reg, l: Loc, old: u8, new: u8) -> Next
 }
 
 // Register r of t gets v, and nothing else changes.
-pub fn load(s: State, t: Thread, r: Reg, v: u8) -> Next
+fn load(s: State, t: Thread, r: Reg, v: u8) -> Next
     requires { ⌜ Valid s ⌝ }
     requires { ⌜ (t .0 < 4) × (r .0 < 4) ⌝ }
     ensures { λ x. ⌜ ((g : File) → Takes (to (wrote (machineOf s g) (t .0) (r .0) v)) g x) ⌝ }
@@ -98,7 +98,7 @@ pub fn load(s: State, t: Thread, r: Reg, v: u8) -> Next
 }
 
 // A step to the state u that loads nothing.
-pub fn reached(u: State) -> Next
+fn reached(u: State) -> Next
     requires { ⌜ Valid u ⌝ }
     ensures { λ x. ⌜ ((g : File) → Takes (to (machineOf u g)) g x) ⌝ }
 {
@@ -109,7 +109,7 @@ pub fn reached(u: State) -> Next
 }
 
 // Compare and swap, where it is allowed.
-pub fn compare_swap(s: State, t: Thread, r: Reg, l: Loc, e: u8, n: u8) -> Next
+fn compare_swap(s: State, t: Thread, r: Reg, l: Loc, e: u8, n: u8) -> Next
     requires { ⌜ Valid s ⌝ }
     requires { ⌜ (t .0 < 4) × (r .0 < 4) × (l .0 < 6) ⌝ }
     requires { ⌜ ((p : Prog) (g : File) → verdictOf (does p join (machineOf s g) (t .0) (Op.Cas r l e n)) ≡ Verdict.Allowed) ⌝ }
@@ -124,7 +124,7 @@ pub fn compare_swap(s: State, t: Thread, r: Reg, l: Loc, e: u8, n: u8) -> Next
 }
 
 // Fetch and add, where it is allowed.
-pub fn fetch_add(s: State, t: Thread, r: Reg, l: Loc, a: u8) -> Next
+fn fetch_add(s: State, t: Thread, r: Reg, l: Loc, a: u8) -> Next
     requires { ⌜ Valid s ⌝ }
     requires { ⌜ (t .0 < 4) × (r .0 < 4) × (l .0 < 6) ⌝ }
     requires { ⌜ ((p : Prog) (g : File) → verdictOf (does p join (machineOf s g) (t .0) (Op.Faa r l a)) ≡ Verdict.Allowed) ⌝ }
@@ -136,7 +136,7 @@ pub fn fetch_add(s: State, t: Thread, r: Reg, l: Loc, a: u8) -> Next
 }
 
 // Thread t, whose place is moved on already, does the instruction o, which is allowed.
-pub fn do_op(s: State, regs: [[u8; 4]; 4], t: Thread, o: Op) -> Next
+fn do_op(s: State, regs: [[u8; 4]; 4], t: Thread, o: Op) -> Next
     requires { ⌜ Valid s ⌝ }
     requires { ⌜ (t .0 < 4) × Fits 6 8 (getD (s .places) (t .0) 0 - 1) o ⌝ }
     requires { ⌜ ((p : Prog) (g : File) → verdictOf (does p join (machineOf s g) (t .0) o) ≡ Verdict.Allowed) ⌝ }
@@ -167,7 +167,7 @@ pub fn do_op(s: State, regs: [[u8; 4]; 4], t: Thread, o: Op) -> Next
 }
 
 // Codes 0 to 3: thread t does its next instruction, which is allowed.
-pub fn step_thread(p: Program, regs: [[u8; 4]; 4], s: State, t: Thread) -> Next
+fn step_thread(p: Program, regs: [[u8; 4]; 4], s: State, t: Thread) -> Next
     requires { ⌜ legal p ≡ true ⌝ }
     requires { ⌜ Valid s ⌝ }
     requires { ⌜ t .0 < 4 ⌝ }
@@ -188,7 +188,7 @@ pub fn step_thread(p: Program, regs: [[u8; 4]; 4], s: State, t: Thread) -> Next
 }
 
 // The entry e, which left the buffer of t, goes where it goes, which is allowed.
-pub fn gone(u: State, t: Thread, e: Entry) -> State
+fn gone(u: State, t: Thread, e: Entry) -> State
     requires { ⌜ Valid u ⌝ }
     requires { ⌜ (t .0 < 4) × EntryIn e ⌝ }
     requires { ⌜ ((p : Prog) (g : File) → verdictOf (goes p (machineOf u g) (t .0) (entryOf e)) ≡ Verdict.Allowed) ⌝ }
@@ -209,7 +209,7 @@ pub fn gone(u: State, t: Thread, e: Entry) -> State
 }
 
 // Codes 16+8t+i: the entry at place i leaves the buffer of t, which is allowed.
-pub fn leave(s: State, t: Thread, i: u8) -> State
+fn leave(s: State, t: Thread, i: u8) -> State
     requires { ⌜ Valid s ⌝ }
     requires { ⌜ t .0 < 4 ⌝ }
     requires { ⌜ ((p : Prog) (g : File) → verdictOf (leaves p (machineOf s g) (t .0) i (getElem? (bufferIn s (t .0)) i)) ≡ Verdict.Allowed) ⌝ }
@@ -224,7 +224,7 @@ pub fn leave(s: State, t: Thread, i: u8) -> State
 }
 
 // Codes 64+l: the oldest entry of the queue of l goes, if there is one.
-pub fn persist(s: State, l: Loc) -> State
+fn persist(s: State, l: Loc) -> State
     requires { ⌜ Valid s ⌝ }
     requires { ⌜ (l .0 < 6) × (0 < length (queueIn s (l .0))) ⌝ }
     ensures { λ r. ⌜ Comes (λ g. persists (machineOf s g) (l .0) (queueIn s (l .0))) r ⌝ }

@@ -1,14 +1,14 @@
 -- The loops that test a program: what one turn settles where its test holds and where it fails, and what is left at the end. A loop that
 -- has passed k elements has the rest to test, `drop k`. Assumes nothing.
 use Prim.Native.Nat.{ℕ, suc, _+_, _*_, _-_, _<_, _≤_}
-use mathlib.Core.Path.{_≡_, refl, ap, sym, _∙_}
+use mathlib.Core.Path.{_≡_, sym, _∙_}
 use mathlib.Core.Bool.{true, false, _&&_}
-use mathlib.Core.List.{List, [], _∷_, map}
+use mathlib.Core.List.{List, [], map}
 use native.Mathlib.Numerals.{add-one}
 use native.Mathlib.Omega.{arith}
 use borrow.Author.Tests.{le-leb, lt-leb}
 use lib.Dec.{leb}
-use lib.ListN.{length, getD, take, drop, length-take, length-drop, length-map, drop-of-length-le, List·getD-map}
+use lib.ListN.{length, getD, drop, length-take, length-drop, length-map, drop-of-length-le, List·getD-map}
 use lib.Seq.{drop-cons, getD-take, getD-drop}
 use Rattle.program.specs.Program.{opIn, opsOf, mostOps}
 use Rattle.program.specs.Legal.{legalOp, legalOps, legalThreads, allBelow}

@@ -10,7 +10,7 @@ use Rattle.program.specs.declared.Program.{Program}
 use Rattle.px86.specs.declared.Refusal.the-variants.{Illegal, Barred, NoRoom}
 use Rattle.px86.specs.Machine.{Machine, start}
 use Rattle.px86.specs.Step.{step}
-use Rattle.px86.specs.Runs.{Followed, follow}
+use Rattle.px86.specs.Runs.{follow}
 use Rattle.px86.specs.Runs.Followed.{at, stopped, noPlace}
 use Rattle.px86.specs.Ask.{Told, told, followed}
 use Rattle.px86.specs.Ask.Told.{state, refused}

@@ -13,7 +13,7 @@ use Rattle.program.specs.Legal.{legalOp, legalOps, legalThreads, legalProg, all
 use Rattle.program.specs.declared.Program.{Program}
 use Rattle.px86.specs.declared.Refusal.{Refusal}
 use Rattle.px86.specs.declared.Refusal.the-variants.{Illegal, WrongWant, Over, TooLong, Barred, NoRoom}
-use Rattle.px86.specs.Machine.{Machine, from, start, left}
+use Rattle.px86.specs.Machine.{from, start, left}
 use Rattle.px86.specs.Step.{step}
 use Rattle.px86.specs.Runs.{Event, met, tries, walk, leftOver, entries, work, Followed, onward, follow}
 use Rattle.px86.specs.Runs.Event.{run, noRoom}

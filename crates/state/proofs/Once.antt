@@ -4,7 +4,7 @@ use mathlib.Core.List.{List}
 use Prim.Native.Nat.{ℕ}
 use Rattle.names.specs.Once.{Once}
 use Rattle.px86.specs.Machine.{Mark, Machine}
-use Rattle.state.specs.State.{markOf, machineOf, noRegisters, Is, Starts}
+use Rattle.state.specs.State.{markOf, noRegisters, Is}
 use Rattle.state.specs.declared.State.{State}
 use Rattle.state.proofs.Marks.{slotOf, slot-back}
 use Rattle.state.proofs.Unique.{determined}
@@ -14,10 +14,6 @@ use Rattle.state.proofs.queue_len.Kinds as queue-len
 use Rattle.state.proofs.queue_len.Reads as queue-len-reads
 use Rattle.state.proofs.buffer_len.Kinds as buffer-len
 use Rattle.state.proofs.buffer_len.Reads as buffer-len-reads
-use Rattle.state.proofs.close_queued.Kinds as close-queued
-use Rattle.state.proofs.close_queued.Reads as close-queued-reads
-use Rattle.state.proofs.built_without.Kinds as built-without
-use Rattle.state.proofs.built_without.Reads as built-without-reads
 use Rattle.state.proofs.write_slot.Kinds as write-slot
 use Rattle.state.proofs.write_slot.Reads as write-slot-reads
 use Rattle.state.proofs.fo_slot.Kinds as fo-slot
@@ -50,12 +46,6 @@ queue-len-once κs a x y e f p q = p ∙ sym q
 
 pub buffer-len-once : Once 0 buffer-len.ps buffer-len.r buffer-len-reads.Post
 buffer-len-once κs a x y e f p q = p ∙ sym q
-
-pub close-queued-once : Once 0 close-queued.ps close-queued.r close-queued-reads.Post
-close-queued-once κs a x y e f p q = p ∙ sym q
-
-pub built-without-once : Once 0 built-without.ps built-without.r built-without-reads.Post
-built-without-once κs a x y e f p q = p ∙ sym q
 
 pub write-slot-once : Once 0 write-slot.ps write-slot.r write-slot-reads.Post
 write-slot-once κs a x y e f p q = mark-once _ x y p q

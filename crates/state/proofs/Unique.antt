@@ -1,7 +1,7 @@
 -- Equal machines are equal states: what a slot stands for determines it, and the tables are their packed rows.
 -- Assumes nothing.
 use Prim.Native.Nat.{ℕ}
-use mathlib.Core.Path.{_≡_, refl, ap, sym, _∙_}
+use mathlib.Core.Path.{_≡_, refl, ap}
 use mathlib.Core.List.{List}
 use Rattle.tables.proofs.Mapped.{read-same}
 use Rattle.px86.specs.Machine.{Entry as PxEntry, Machine}

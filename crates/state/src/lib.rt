@@ -112,7 +112,7 @@ pub fn queue_push(s: State, l: Loc, e: u16) -> State
 }
 
 // The `moves` entries behind the slot `from` move one slot down, and the last of their slots is blank then.
-pub fn close_queued(xs: [u16; 192], from: usize, moves: usize) -> [u16; 192]
+fn close_queued(xs: [u16; 192], from: usize, moves: usize) -> [u16; 192]
     requires { ⌜ from + moves < 192 ⌝ }
     ensures { λ r. ⌜ r ≡ closed 0 xs from moves ⌝ }
 {
@@ -160,7 +160,7 @@ pub fn buffer_push(s: State, t: Thread, e: Entry) -> State
 
 // A second table is built beside xs: the same but that the `moves` entries behind the slot `from` stand one slot lower, and the last of
 // their slots is blank.
-pub fn built_without(xs: [Slot; 32], from: usize, moves: usize) -> [Slot; 32]
+fn built_without(xs: [Slot; 32], from: usize, moves: usize) -> [Slot; 32]
     requires { ⌜ from + moves < 32 ⌝ }
     ensures { λ r. ⌜ r ≡ closed noSlot xs from moves ⌝ }
 {

@@ -6,7 +6,7 @@ use mathlib.Core.List.{List, [], _∷_, _++_, append-nil}
 use native.Mathlib.Numerals.{add-one}
 use native.Mathlib.Nat.{add-zero, zero-add, suc-add}
 use native.Mathlib.Omega.{arith}
-use lib.ListN.{length, getD, drop, set, replicate, length-append, length-set, length-take, length-drop, drop-of-length-le, List·getD-append}
+use lib.ListN.{length, getD, drop, set, replicate, length-set, drop-of-length-le, List·getD-append}
 use lib.Seq.{set-split, set-append-left, take-suc-set, drop-set-lt, drop-cons, getD-drop, drop-drop, append-snoc}
 use Rattle.tables.specs.Tables.{without, padded, closed}
 use Rattle.tables.proofs.Found.{length-without}

@@ -1,5 +1,6 @@
 // Whether a code is allowed in a state. No state is changed or handed back here.
 pub mod reads;
+
 ghost use mathlib.Core.Path.{_≡_};
 ghost use mathlib.Core.Bool.{true};
 ghost use Prim.Native.Nat.{ℕ, _<_, _≤_};
@@ -34,7 +35,7 @@ pub enum Verdict {
 }
 
 // Whether one more entry fits into the queue of l.
-pub fn queue_room(s: State, l: Loc) -> Verdict
+fn queue_room(s: State, l: Loc) -> Verdict
     requires { ⌜ Valid s ⌝ }
     requires { ⌜ l .0 < 6 ⌝ }
     ensures { λ r. ⌜ ((k : Mark) → JudgesAround s (λ m. enqueue m (l .0) k) r) ⌝ }
@@ -47,7 +48,7 @@ pub fn queue_room(s: State, l: Loc) -> Verdict
 }
 
 // Whether one more entry fits into the buffer of t.
-pub fn buffer_room(s: State, t: Thread) -> Verdict
+fn buffer_room(s: State, t: Thread) -> Verdict
     requires { ⌜ Valid s ⌝ }
     requires { ⌜ t .0 < 4 ⌝ }
     ensures { λ r. ⌜ ((e : PxEntry) → Judges s (λ m. join m (t .0) e) r) ⌝ }
@@ -60,7 +61,7 @@ pub fn buffer_room(s: State, t: Thread) -> Verdict
 }
 
 // Whether t may do a locked write to l.
-pub fn may_lock(s: State, t: Thread, l: Loc) -> Verdict
+fn may_lock(s: State, t: Thread, l: Loc) -> Verdict
     requires { ⌜ Valid s ⌝ }
     requires { ⌜ (t .0 < 4) × (l .0 < 6) ⌝ }
     ensures { λ x. ⌜ ((p : Prog) (r v : ℕ) → Judges s (λ m. locked p m (t .0) r (l .0) v) x) ⌝ }
@@ -73,7 +74,7 @@ pub fn may_lock(s: State, t: Thread, l: Loc) -> Verdict
 }
 
 // Whether t may do the instruction o.
-pub fn may_do(s: State, t: Thread, o: Op) -> Verdict
+fn may_do(s: State, t: Thread, o: Op) -> Verdict
     requires { ⌜ Valid s ⌝ }
     requires { ⌜ (t .0 < 4) × Fits 6 8 (getD (s .places) (t .0) 0) o ⌝ }
     ensures { λ r. ⌜ ((p : Prog) → Judges s (λ m. does p join m (t .0) o) r) ⌝ }
@@ -101,7 +102,7 @@ pub fn may_do(s: State, t: Thread, o: Op) -> Verdict
 }
 
 // Whether the entry e, which is the oldest of t's buffer, may go.
-pub fn may_go(s: State, t: Thread, e: Entry) -> Verdict
+fn may_go(s: State, t: Thread, e: Entry) -> Verdict
     requires { ⌜ Valid s ⌝ }
     requires { ⌜ (t .0 < 4) × EntryIn e ⌝ }
     ensures { λ r. ⌜ ((p : Prog) → JudgesAround s (λ m. goes p m (t .0) (entryOf e)) r) ⌝ }
@@ -123,7 +124,7 @@ pub fn may_go(s: State, t: Thread, e: Entry) -> Verdict
 }
 
 // Whether the entry e may overtake all that is older than its place i in t's buffer.
-pub fn may_pass(s: State, t: Thread, i: u8, e: Entry) -> bool
+fn may_pass(s: State, t: Thread, i: u8, e: Entry) -> bool
     requires { ⌜ Valid s ⌝ }
     requires { ⌜ (t .0 < 4) × (i ≤ length (bufferIn s (t .0))) ⌝ }
     ensures { λ r. ⌜ ((p : Prog) → r ≡ mayLeave p (entryOf e) (take i (bufferIn s (t .0)))) ⌝ }
@@ -137,7 +138,7 @@ pub fn may_pass(s: State, t: Thread, i: u8, e: Entry) -> bool
 }
 
 // Codes 16+8t+i.
-pub fn may_leave(s: State, t: Thread, i: u8) -> Verdict
+fn may_leave(s: State, t: Thread, i: u8) -> Verdict
     requires { ⌜ Valid s ⌝ }
     requires { ⌜ t .0 < 4 ⌝ }
     ensures { λ r. ⌜ ((p : Prog) → Judges s (λ m. leaves p m (t .0) i (getElem? (bufferIn s (t .0)) i)) r) ⌝ }
@@ -157,7 +158,7 @@ pub fn may_leave(s: State, t: Thread, i: u8) -> Verdict
 }
 
 // Codes 64+l.
-pub fn may_persist(s: State, l: Loc) -> Verdict
+fn may_persist(s: State, l: Loc) -> Verdict
     requires { ⌜ Valid s ⌝ }
     requires { ⌜ l .0 < 6 ⌝ }
     ensures { λ r. ⌜ Judges s (λ m. persists m (l .0) (queueIn s (l .0))) r ⌝ }
@@ -170,7 +171,7 @@ pub fn may_persist(s: State, l: Loc) -> Verdict
 }
 
 // Codes 0 to 3: whether t may do its next instruction.
-pub fn may_step(p: Program, s: State, t: Thread) -> Verdict
+fn may_step(p: Program, s: State, t: Thread) -> Verdict
     requires { ⌜ legal p ≡ true ⌝ }
     requires { ⌜ Valid s ⌝ }
     requires { ⌜ t .0 < 4 ⌝ }

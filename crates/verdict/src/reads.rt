@@ -16,7 +16,7 @@ use state::State;
 use state::buffer_len;
 
 // What l holds after the queue's slot e, where it was v before: a write to l is taken up, and nothing else.
-pub fn after_slot(l: Loc, v: u8, e: u16) -> u8
+fn after_slot(l: Loc, v: u8, e: u16) -> u8
     ensures { λ r. ⌜ r ≡ written (l .0) v (markOf e ∷ []) ⌝ }
 {
     if State::FIRST_FO <= e {
@@ -30,7 +30,7 @@ pub fn after_slot(l: Loc, v: u8, e: u16) -> u8
 }
 
 // The same of the buffer's slot x: a store to l is taken up, and nothing else.
-pub fn after_entry(l: Loc, v: u8, x: Slot) -> u8
+fn after_entry(l: Loc, v: u8, x: Slot) -> u8
     ensures { λ r. ⌜ r ≡ stored (l .0) v (entryIn x ∷ []) ⌝ }
 {
     let e = x.entry;
@@ -43,7 +43,7 @@ pub fn after_entry(l: Loc, v: u8, x: Slot) -> u8
 }
 
 // The newest write to l in its queue, or `old` where there is none.
-pub fn newest_queued(s: State, l: Loc, old: u8) -> u8
+fn newest_queued(s: State, l: Loc, old: u8) -> u8
     requires { ⌜ Valid s ⌝ }
     requires { ⌜ l .0 < 6 ⌝ }
     ensures { λ r. ⌜ r ≡ written (l .0) old (queueIn s (l .0)) ⌝ }
@@ -63,7 +63,7 @@ pub fn newest_queued(s: State, l: Loc, old: u8) -> u8
 }
 
 // The newest store to l in the buffer of t, or `old` where there is none.
-pub fn newest_buffered(s: State, t: Thread, l: Loc, old: u8) -> u8
+fn newest_buffered(s: State, t: Thread, l: Loc, old: u8) -> u8
     requires { ⌜ Valid s ⌝ }
     requires { ⌜ t .0 < 4 ⌝ }
     ensures { λ r. ⌜ r ≡ stored (l .0) old (bufferIn s (t .0)) ⌝ }
@@ -96,7 +96,7 @@ pub fn read(s: State, t: Thread, l: Loc) -> u8
 }
 
 // Whether the queue of l holds no fo of t.
-pub fn queue_clear(s: State, t: Thread, l: Loc) -> bool
+fn queue_clear(s: State, t: Thread, l: Loc) -> bool
     requires { ⌜ Valid s ⌝ }
     requires { ⌜ (t .0 < 4) × (l .0 < 6) ⌝ }
     ensures { λ r. ⌜ r ≡ clear (t .0) (queueIn s (l .0)) ⌝ }
@@ -147,7 +147,7 @@ pub fn is_fenced(s: State, t: Thread) -> bool
 }
 
 // Whether no fo of l may overtake the buffer's slot x.
-pub fn stops(l: Loc, x: Slot) -> bool
+fn stops(l: Loc, x: Slot) -> bool
     ensures { λ r. ⌜ ((p : Prog) → r ≡ blocks p (l .0) (entryIn x)) ⌝ }
 {
     let e = x.entry;
