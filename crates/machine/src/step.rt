@@ -35,6 +35,9 @@ use state::queue_pop;
 use state::queue_push;
 use state::set_memory;
 use state::write_slot;
+use verdict::LEAVE;
+use verdict::LEAVE_END;
+use verdict::PERSIST;
 use verdict::Verdict;
 use verdict::reads::read;
 
@@ -246,13 +249,13 @@ pub fn step(p: Program, regs: [[u8; 4]; 4], s: State, c: u8) -> Next
     requires { ⌜ ((g : File) → verdictOf (stepOf (progOf p) (machineOf s g) c) ≡ Verdict.Allowed) ⌝ }
     ensures { λ r. ⌜ Takes (stepOf (progOf p) (machineOf s regs) c) regs r ⌝ }
 {
-    if c < 4 {
+    if c < Thread::LIMIT {
         return step_thread(p, regs, s, Thread(c));
     }
-    if c < 48 {
-        let u = leave(s, Thread((c - 16) / 8), (c - 16) % 8);
+    if c < LEAVE_END {
+        let u = leave(s, Thread((c - LEAVE) / 8), (c - LEAVE) % 8);
         return reached(u);
     }
-    let v = persist(s, Loc(c - 64));
+    let v = persist(s, Loc(c - PERSIST));
     reached(v)
 }

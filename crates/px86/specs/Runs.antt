@@ -3,6 +3,7 @@ use Prim.Native.Nat.{ℕ, zero, suc, _+_, _-_, _*_, _≤_}
 use mathlib.Core.Path.{_≡_}
 use mathlib.Core.List.{List, [], _∷_, _++_}
 use lib.ListN.{length, getD}
+use Rattle.names.specs.Names.{locations}
 use Rattle.program.specs.Program.{Prog}
 use Rattle.program.specs.declared.Op.{Op}
 use Rattle.px86.specs.Machine.{Machine, place, buffer, queue}
@@ -54,9 +55,9 @@ unfoldable pub tries : Steps → (List ℕ → Machine → List Event) → List 
 tries s w r m zero c = []
 tries s w r m (suc k) c = met w (r ++ c ∷ []) (s m c) ++ tries s w r m k (suc c)
 
--- no code is 70 or more
+-- every code is below this
 abbrev pub codes : ℕ
-codes = 70
+codes = 64 + locations
 
 -- all runs that begin with r, which comes to m: "by the first differing code, a beginning before what extends it". The fuel is more than m's
 -- work (then it does not matter: `fuel` of proofs/Fuel.antt).

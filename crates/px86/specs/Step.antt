@@ -1,12 +1,12 @@
 -- One step of the machine: document 01, "The machine". Each clause bears the name of the slide's rule that it is. Assumes nothing: these are
 -- definitions.
-use Prim.Native.Nat.{ℕ, suc, _+_, _-_, _/_, _%_}
+use Prim.Native.Nat.{ℕ, suc, _+_, _-_, _*_, _/_, _%_}
 use mathlib.Core.Bool.{Bool, true, false, not, _&&_}
 use mathlib.Core.Option.{Option, none, some}
 use mathlib.Core.List.{List, [], _∷_, _++_}
 use lib.ListN.{length, getD, take, getElem?}
 use lib.Dec.{ltb, eqb}
-use Rattle.names.specs.Names.{pick}
+use Rattle.names.specs.Names.{threads, locations, pick}
 use Rattle.tables.specs.Tables.{without}
 use Rattle.program.specs.Program.{Prog}
 use Rattle.program.specs.declared.Op.{Op}
@@ -163,11 +163,11 @@ pub data Sort : Type 0 where
 
 unfoldable pub sort : ℕ → Sort
 sort c =
-    pick (ltb c 4) (thread c)
+    pick (ltb c threads) (thread c)
     (pick (ltb c 16) other
-    (pick (ltb c 48) (leave ((c - 16) / 8) ((c - 16) % 8))
+    (pick (ltb c (16 + 8 * threads)) (leave ((c - 16) / 8) ((c - 16) % 8))
     (pick (ltb c 64) other
-    (pick (ltb c 70) (persist (c - 64)) other))))
+    (pick (ltb c (64 + locations)) (persist (c - 64)) other))))
 
 -- "A code that names no entry that is there, and every number of none of these sorts, is not allowed."
 unfoldable pub sorted : Prog → Machine → Sort → Stepped

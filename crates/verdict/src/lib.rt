@@ -28,6 +28,15 @@ use state::State;
 use state::buffer_len;
 use state::queue_len;
 
+// The codes: a thread's own number, from LEAVE on eight for each thread's buffer, and from PERSIST on one for each queue.
+pub const LEAVE: u8 = 16;
+
+pub const LEAVE_END: u8 = LEAVE + 8 * Thread::LIMIT;
+
+pub const PERSIST: u8 = 64;
+
+pub const PERSIST_END: u8 = PERSIST + Loc::LIMIT;
+
 pub enum Verdict {
     Allowed,
     Barred,
@@ -193,20 +202,20 @@ pub fn judge(p: Program, s: State, c: u8) -> Verdict
     requires { ⌜ Valid s ⌝ }
     ensures { λ r. ⌜ ((g : File) → r ≡ verdictOf (step (progOf p) (machineOf s g) c)) ⌝ }
 {
-    if c < 4 {
+    if c < Thread::LIMIT {
         return may_step(p, s, Thread(c));
     }
-    if c < 16 {
+    if c < LEAVE {
         return Verdict::Barred;
     }
-    if c < 48 {
-        return may_leave(s, Thread((c - 16) / 8), (c - 16) % 8);
+    if c < LEAVE_END {
+        return may_leave(s, Thread((c - LEAVE) / 8), (c - LEAVE) % 8);
     }
-    if c < 64 {
+    if c < PERSIST {
         return Verdict::Barred;
     }
-    if c < 70 {
-        return may_persist(s, Loc(c - 64));
+    if c < PERSIST_END {
+        return may_persist(s, Loc(c - PERSIST));
     }
     Verdict::Barred
 }
