@@ -4,13 +4,13 @@ ghost use mathlib.Core.Bool.{true};
 ghost use Prim.Native.Nat.{_+_, _-_, _%_, _<_};
 ghost use lib.Dec.{eqb};
 ghost use lib.ListN.{length, getD, getElem?};
-ghost use Rattle.names.specs.Names.{pick};
-ghost use Rattle.program.specs.Program.{Prog, progOf};
+ghost use Rattle.names.specs.Names.{threads, locations, registers, pick};
+ghost use Rattle.program.specs.Program.{Prog, progOf, mostOps};
 ghost use Rattle.program.specs.Legal.{legal};
 ghost use Rattle.program.specs.Kept.{Fits};
 ghost use Rattle.px86.specs.Machine.{wrote};
 ghost use Rattle.px86.specs.Machine.Mark.{write};
-ghost use Rattle.px86.specs.Step.{join, enqueue, does, next, goes, leaves, persists, step as stepOf};
+ghost use Rattle.px86.specs.Step.{bufferRoom, queueRoom, join, enqueue, does, next, goes, leaves, persists, step as stepOf};
 ghost use Rattle.px86.specs.Step.Stepped.{to};
 ghost use Rattle.state.specs.State.{machineOf, entryOf, queueIn, bufferIn, EntryIn, Valid};
 ghost use Rattle.state.specs.State.{File};
@@ -64,7 +64,7 @@ fn skip(v: u8, k: u8) -> u8
 // The entry e joins the buffer of t.
 fn joined(s: State, t: Thread, e: Entry) -> Next
     requires { ⌜ Valid s ⌝ }
-    requires { ⌜ (t .0 < 4) × (length (bufferIn s (t .0)) < 8) × EntryIn e ⌝ }
+    requires { ⌜ (t .0 < threads) × (length (bufferIn s (t .0)) < bufferRoom) × EntryIn e ⌝ }
     ensures { λ r. ⌜ ((g : File) → Takes (join (machineOf s g) (t .0) (entryOf e)) g r) ⌝ }
 {
     let u = buffer_push(s, t, e);
@@ -77,7 +77,7 @@ fn joined(s: State, t: Thread, e: Entry) -> Next
 // A locked write of `new` to l by t, whose register r gets `old`.
 fn lock(s: State, t: Thread, r: Reg, l: Loc, old: u8, new: u8) -> Next
     requires { ⌜ Valid s ⌝ }
-    requires { ⌜ (t .0 < 4) × (r .0 < 4) × (l .0 < 6) × (length (queueIn s (l .0)) < 32) ⌝ }
+    requires { ⌜ (t .0 < threads) × (r .0 < registers) × (l .0 < locations) × (length (queueIn s (l .0)) < queueRoom) ⌝ }
     ensures { λ x. ⌜ ((g : File) → Takes (enqueue (wrote (machineOf s g) (t .0) (r .0) old) (l .0) (write (l .0) new)) g x) ⌝ }
 {
     let e = write_slot(l, new);
@@ -91,7 +91,7 @@ fn lock(s: State, t: Thread, r: Reg, l: Loc, old: u8, new: u8) -> Next
 // Register r of t gets v, and nothing else changes.
 fn load(s: State, t: Thread, r: Reg, v: u8) -> Next
     requires { ⌜ Valid s ⌝ }
-    requires { ⌜ (t .0 < 4) × (r .0 < 4) ⌝ }
+    requires { ⌜ (t .0 < threads) × (r .0 < registers) ⌝ }
     ensures { λ x. ⌜ ((g : File) → Takes (to (wrote (machineOf s g) (t .0) (r .0) v)) g x) ⌝ }
 {
     Next {
@@ -114,7 +114,7 @@ fn reached(u: State) -> Next
 // Compare and swap, where it is allowed.
 fn compare_swap(s: State, t: Thread, r: Reg, l: Loc, e: u8, n: u8) -> Next
     requires { ⌜ Valid s ⌝ }
-    requires { ⌜ (t .0 < 4) × (r .0 < 4) × (l .0 < 6) ⌝ }
+    requires { ⌜ (t .0 < threads) × (r .0 < registers) × (l .0 < locations) ⌝ }
     requires { ⌜ ((p : Prog) (g : File) → verdictOf (does p join (machineOf s g) (t .0) (Op.Cas r l e n)) ≡ Verdict.Allowed) ⌝ }
     ensures { λ x. ⌜ ((p : Prog) (g : File) → Takes (does p join (machineOf s g) (t .0) (Op.Cas r l e n)) g x) ⌝ }
 {
@@ -129,7 +129,7 @@ fn compare_swap(s: State, t: Thread, r: Reg, l: Loc, e: u8, n: u8) -> Next
 // Fetch and add, where it is allowed.
 fn fetch_add(s: State, t: Thread, r: Reg, l: Loc, a: u8) -> Next
     requires { ⌜ Valid s ⌝ }
-    requires { ⌜ (t .0 < 4) × (r .0 < 4) × (l .0 < 6) ⌝ }
+    requires { ⌜ (t .0 < threads) × (r .0 < registers) × (l .0 < locations) ⌝ }
     requires { ⌜ ((p : Prog) (g : File) → verdictOf (does p join (machineOf s g) (t .0) (Op.Faa r l a)) ≡ Verdict.Allowed) ⌝ }
     ensures { λ x. ⌜ ((p : Prog) (g : File) → Takes (does p join (machineOf s g) (t .0) (Op.Faa r l a)) g x) ⌝ }
 {
@@ -141,7 +141,7 @@ fn fetch_add(s: State, t: Thread, r: Reg, l: Loc, a: u8) -> Next
 // Thread t, whose place is moved on already, does the instruction o, which is allowed.
 fn do_op(s: State, regs: [[u8; 4]; 4], t: Thread, o: Op) -> Next
     requires { ⌜ Valid s ⌝ }
-    requires { ⌜ (t .0 < 4) × Fits 6 8 (getD (s .places) (t .0) 0 - 1) o ⌝ }
+    requires { ⌜ (t .0 < threads) × Fits locations mostOps (getD (s .places) (t .0) 0 - 1) o ⌝ }
     requires { ⌜ ((p : Prog) (g : File) → verdictOf (does p join (machineOf s g) (t .0) o) ≡ Verdict.Allowed) ⌝ }
     ensures { λ x. ⌜ ((p : Prog) → Takes (does p join (machineOf s regs) (t .0) o) regs x) ⌝ }
 {
@@ -173,7 +173,7 @@ fn do_op(s: State, regs: [[u8; 4]; 4], t: Thread, o: Op) -> Next
 fn step_thread(p: Program, regs: [[u8; 4]; 4], s: State, t: Thread) -> Next
     requires { ⌜ legal p ≡ true ⌝ }
     requires { ⌜ Valid s ⌝ }
-    requires { ⌜ t .0 < 4 ⌝ }
+    requires { ⌜ t .0 < threads ⌝ }
     requires { ⌜ ((g : File) → verdictOf (next (progOf p) join (machineOf s g) (t .0) (instruction p s (t .0))) ≡ Verdict.Allowed) ⌝ }
     ensures { λ x. ⌜ Takes (next (progOf p) join (machineOf s regs) (t .0) (instruction p s (t .0))) regs x ⌝ }
 {
@@ -193,7 +193,7 @@ fn step_thread(p: Program, regs: [[u8; 4]; 4], s: State, t: Thread) -> Next
 // The entry e, which left the buffer of t, goes where it goes, which is allowed.
 fn gone(u: State, t: Thread, e: Entry) -> State
     requires { ⌜ Valid u ⌝ }
-    requires { ⌜ (t .0 < 4) × EntryIn e ⌝ }
+    requires { ⌜ (t .0 < threads) × EntryIn e ⌝ }
     requires { ⌜ ((p : Prog) (g : File) → verdictOf (goes p (machineOf u g) (t .0) (entryOf e)) ≡ Verdict.Allowed) ⌝ }
     ensures { λ r. ⌜ ((p : Prog) → Comes (λ g. goes p (machineOf u g) (t .0) (entryOf e)) r) ⌝ }
 {
@@ -214,7 +214,7 @@ fn gone(u: State, t: Thread, e: Entry) -> State
 // Codes 16+8t+i: the entry at place i leaves the buffer of t, which is allowed.
 fn leave(s: State, t: Thread, i: u8) -> State
     requires { ⌜ Valid s ⌝ }
-    requires { ⌜ t .0 < 4 ⌝ }
+    requires { ⌜ t .0 < threads ⌝ }
     requires { ⌜ ((p : Prog) (g : File) → verdictOf (leaves p (machineOf s g) (t .0) i (getElem? (bufferIn s (t .0)) i)) ≡ Verdict.Allowed) ⌝ }
     ensures { λ r. ⌜ ((p : Prog) → Comes (λ g. leaves p (machineOf s g) (t .0) i (getElem? (bufferIn s (t .0)) i)) r) ⌝ }
 {
@@ -229,7 +229,7 @@ fn leave(s: State, t: Thread, i: u8) -> State
 // Codes 64+l: the oldest entry of the queue of l goes, if there is one.
 fn persist(s: State, l: Loc) -> State
     requires { ⌜ Valid s ⌝ }
-    requires { ⌜ (l .0 < 6) × (0 < length (queueIn s (l .0))) ⌝ }
+    requires { ⌜ (l .0 < locations) × (0 < length (queueIn s (l .0))) ⌝ }
     ensures { λ r. ⌜ Comes (λ g. persists (machineOf s g) (l .0) (queueIn s (l .0))) r ⌝ }
 {
     let at = l.0 as usize;

@@ -3,9 +3,12 @@ ghost use mathlib.Core.Path.{_≡_};
 ghost use mathlib.Core.List.{_++_, _∷_, []};
 ghost use Prim.Native.Nat.{_+_, _-_, _<_, _≤_};
 ghost use lib.ListN.{length, getD};
+ghost use Rattle.names.specs.Names.{threads, locations};
 ghost use Rattle.tables.specs.Tables.{without, closed};
+ghost use Rattle.program.specs.Program.{mostOps};
 ghost use Rattle.px86.specs.Machine.{moved, buffered, queued, persisted};
 ghost use Rattle.px86.specs.Machine.Mark.{write, opt};
+ghost use Rattle.px86.specs.Step.{bufferRoom, queueRoom};
 ghost use Rattle.state.specs.State.{markOf, entryOf, machineOf, queueIn, bufferIn, EntryIn, Valid, Is, Starts, noSlot};
 use names::Loc;
 use names::Thread;
@@ -40,7 +43,7 @@ impl State {
     pub const BUFFER_ROOM: usize = 8;
 
     // A queue's slot below this is a write: 256 for each location below its own, and the value. From here on it is an fo of a thread.
-    pub const FIRST_FO: u16 = 1536;
+    pub const FIRST_FO: u16 = 256 * (Loc::LIMIT as u16);
 
     // Before the first step: nothing is buffered or queued, and all places and memory are 0.
     pub fn start() -> State
@@ -63,7 +66,7 @@ impl State {
 // How many entries wait in the queue of l.
 pub fn queue_len(s: State, l: Loc) -> u8
     requires { ⌜ Valid s ⌝ }
-    requires { ⌜ l .0 < 6 ⌝ }
+    requires { ⌜ l .0 < locations ⌝ }
     ensures { λ r. ⌜ r ≡ length (queueIn s (l .0)) ⌝ }
 {
     let at = l.0 as usize;
@@ -74,7 +77,7 @@ pub fn queue_len(s: State, l: Loc) -> u8
 // How many entries wait in the buffer of t.
 pub fn buffer_len(s: State, t: Thread) -> u8
     requires { ⌜ Valid s ⌝ }
-    requires { ⌜ t .0 < 4 ⌝ }
+    requires { ⌜ t .0 < threads ⌝ }
     ensures { λ r. ⌜ r ≡ length (bufferIn s (t .0)) ⌝ }
 {
     let at = t.0 as usize;
@@ -84,14 +87,14 @@ pub fn buffer_len(s: State, t: Thread) -> u8
 
 // The slot of a write of v to l, and of an fo of t.
 pub fn write_slot(l: Loc, v: u8) -> u16
-    requires { ⌜ l .0 < 6 ⌝ }
+    requires { ⌜ l .0 < locations ⌝ }
     ensures { λ r. ⌜ markOf r ≡ write (l .0) v ⌝ }
 {
     (l.0 as u16) * 256 + (v as u16)
 }
 
 pub fn fo_slot(t: Thread) -> u16
-    requires { ⌜ t .0 < 4 ⌝ }
+    requires { ⌜ t .0 < threads ⌝ }
     ensures { λ r. ⌜ markOf r ≡ opt (t .0) ⌝ }
 {
     State::FIRST_FO + (t.0 as u16)
@@ -100,7 +103,7 @@ pub fn fo_slot(t: Thread) -> u16
 // The slot e joins the end of the queue of l.
 pub fn queue_push(s: State, l: Loc, e: u16) -> State
     requires { ⌜ Valid s ⌝ }
-    requires { ⌜ (l .0 < 6) × (length (queueIn s (l .0)) < 32) ⌝ }
+    requires { ⌜ (l .0 < locations) × (length (queueIn s (l .0)) < queueRoom) ⌝ }
     ensures { λ r. ⌜ Is (λ g. queued (machineOf s g) (l .0) (queueIn s (l .0) ++ markOf e ∷ [])) r ⌝ }
 {
     let at = l.0 as usize;
@@ -131,7 +134,7 @@ fn close_queued(xs: [u16; 192], from: usize, moves: usize) -> [u16; 192]
 // The oldest entry of the queue of l goes.
 pub fn queue_pop(s: State, l: Loc) -> State
     requires { ⌜ Valid s ⌝ }
-    requires { ⌜ (l .0 < 6) × (0 < length (queueIn s (l .0))) ⌝ }
+    requires { ⌜ (l .0 < locations) × (0 < length (queueIn s (l .0))) ⌝ }
     ensures { λ r. ⌜ Is (λ g. queued (machineOf s g) (l .0) (without 0 (queueIn s (l .0)))) r ⌝ }
 {
     let at = l.0 as usize;
@@ -147,7 +150,7 @@ pub fn queue_pop(s: State, l: Loc) -> State
 // The entry e joins the end of the buffer of t.
 pub fn buffer_push(s: State, t: Thread, e: Entry) -> State
     requires { ⌜ Valid s ⌝ }
-    requires { ⌜ (t .0 < 4) × (length (bufferIn s (t .0)) < 8) × EntryIn e ⌝ }
+    requires { ⌜ (t .0 < threads) × (length (bufferIn s (t .0)) < bufferRoom) × EntryIn e ⌝ }
     ensures { λ r. ⌜ Is (λ g. buffered (machineOf s g) (t .0) (bufferIn s (t .0) ++ entryOf e ∷ [])) r ⌝ }
 {
     let at = t.0 as usize;
@@ -181,7 +184,7 @@ fn built_without(xs: [Slot; 32], from: usize, moves: usize) -> [Slot; 32]
 // The entry at place i leaves the buffer of t.
 pub fn buffer_remove(s: State, t: Thread, i: u8) -> State
     requires { ⌜ Valid s ⌝ }
-    requires { ⌜ (t .0 < 4) × (i < length (bufferIn s (t .0))) ⌝ }
+    requires { ⌜ (t .0 < threads) × (i < length (bufferIn s (t .0))) ⌝ }
     ensures { λ r. ⌜ Is (λ g. buffered (machineOf s g) (t .0) (without i (bufferIn s (t .0)))) r ⌝ }
 {
     let at = t.0 as usize;
@@ -201,7 +204,7 @@ pub fn buffer_remove(s: State, t: Thread, i: u8) -> State
 // The place of t moves on by k.
 pub fn advance(s: State, t: Thread, k: u8) -> State
     requires { ⌜ Valid s ⌝ }
-    requires { ⌜ (t .0 < 4) × (getD (s .places) (t .0) 0 + k ≤ 8) ⌝ }
+    requires { ⌜ (t .0 < threads) × (getD (s .places) (t .0) 0 + k ≤ mostOps) ⌝ }
     ensures { λ r. ⌜ Is (λ g. moved (machineOf s g) (t .0) (getD (s .places) (t .0) 0 + k)) r ⌝ }
 {
     let at = t.0 as usize;
@@ -214,7 +217,7 @@ pub fn advance(s: State, t: Thread, k: u8) -> State
 // The memory at l is v now.
 pub fn set_memory(s: State, l: Loc, v: u8) -> State
     requires { ⌜ Valid s ⌝ }
-    requires { ⌜ l .0 < 6 ⌝ }
+    requires { ⌜ l .0 < locations ⌝ }
     ensures { λ r. ⌜ Is (λ g. persisted (machineOf s g) (l .0) v) r ⌝ }
 {
     let at = l.0 as usize;

@@ -5,7 +5,8 @@ ghost use mathlib.Core.Path.{_≡_};
 ghost use mathlib.Core.Bool.{true};
 ghost use Prim.Native.Nat.{ℕ, _<_, _≤_};
 ghost use lib.ListN.{length, getD, take, getElem?};
-ghost use Rattle.program.specs.Program.{Prog, progOf};
+ghost use Rattle.names.specs.Names.{threads, locations};
+ghost use Rattle.program.specs.Program.{Prog, progOf, mostOps};
 ghost use Rattle.program.specs.Legal.{legal};
 ghost use Rattle.program.specs.Kept.{Fits};
 ghost use Rattle.px86.specs.Machine.{Entry as PxEntry, Mark};
@@ -46,7 +47,7 @@ pub enum Verdict {
 // Whether one more entry fits into the queue of l.
 fn queue_room(s: State, l: Loc) -> Verdict
     requires { ⌜ Valid s ⌝ }
-    requires { ⌜ l .0 < 6 ⌝ }
+    requires { ⌜ l .0 < locations ⌝ }
     ensures { λ r. ⌜ ((k : Mark) → JudgesAround s (λ m. enqueue m (l .0) k) r) ⌝ }
 {
     if (queue_len(s, l) as usize) < State::QUEUE_ROOM {
@@ -59,7 +60,7 @@ fn queue_room(s: State, l: Loc) -> Verdict
 // Whether one more entry fits into the buffer of t.
 fn buffer_room(s: State, t: Thread) -> Verdict
     requires { ⌜ Valid s ⌝ }
-    requires { ⌜ t .0 < 4 ⌝ }
+    requires { ⌜ t .0 < threads ⌝ }
     ensures { λ r. ⌜ ((e : PxEntry) → Judges s (λ m. join m (t .0) e) r) ⌝ }
 {
     if (buffer_len(s, t) as usize) < State::BUFFER_ROOM {
@@ -72,7 +73,7 @@ fn buffer_room(s: State, t: Thread) -> Verdict
 // Whether t may do a locked write to l.
 fn may_lock(s: State, t: Thread, l: Loc) -> Verdict
     requires { ⌜ Valid s ⌝ }
-    requires { ⌜ (t .0 < 4) × (l .0 < 6) ⌝ }
+    requires { ⌜ (t .0 < threads) × (l .0 < locations) ⌝ }
     ensures { λ x. ⌜ ((p : Prog) (r v : ℕ) → Judges s (λ m. locked p m (t .0) r (l .0) v) x) ⌝ }
 {
     if is_fenced(s, t) {
@@ -85,7 +86,7 @@ fn may_lock(s: State, t: Thread, l: Loc) -> Verdict
 // Whether t may do the instruction o.
 fn may_do(s: State, t: Thread, o: Op) -> Verdict
     requires { ⌜ Valid s ⌝ }
-    requires { ⌜ (t .0 < 4) × Fits 6 8 (getD (s .places) (t .0) 0) o ⌝ }
+    requires { ⌜ (t .0 < threads) × Fits locations mostOps (getD (s .places) (t .0) 0) o ⌝ }
     ensures { λ r. ⌜ ((p : Prog) → Judges s (λ m. does p join m (t .0) o) r) ⌝ }
 {
     match o {
@@ -113,7 +114,7 @@ fn may_do(s: State, t: Thread, o: Op) -> Verdict
 // Whether the entry e, which is the oldest of t's buffer, may go.
 fn may_go(s: State, t: Thread, e: Entry) -> Verdict
     requires { ⌜ Valid s ⌝ }
-    requires { ⌜ (t .0 < 4) × EntryIn e ⌝ }
+    requires { ⌜ (t .0 < threads) × EntryIn e ⌝ }
     ensures { λ r. ⌜ ((p : Prog) → JudgesAround s (λ m. goes p m (t .0) (entryOf e)) r) ⌝ }
 {
     match e {
@@ -135,7 +136,7 @@ fn may_go(s: State, t: Thread, e: Entry) -> Verdict
 // Whether the entry e may overtake all that is older than its place i in t's buffer.
 fn may_pass(s: State, t: Thread, i: u8, e: Entry) -> bool
     requires { ⌜ Valid s ⌝ }
-    requires { ⌜ (t .0 < 4) × (i ≤ length (bufferIn s (t .0))) ⌝ }
+    requires { ⌜ (t .0 < threads) × (i ≤ length (bufferIn s (t .0))) ⌝ }
     ensures { λ r. ⌜ ((p : Prog) → r ≡ mayLeave p (entryOf e) (take i (bufferIn s (t .0)))) ⌝ }
 {
     match e {
@@ -149,7 +150,7 @@ fn may_pass(s: State, t: Thread, i: u8, e: Entry) -> bool
 // Codes 16+8t+i.
 fn may_leave(s: State, t: Thread, i: u8) -> Verdict
     requires { ⌜ Valid s ⌝ }
-    requires { ⌜ t .0 < 4 ⌝ }
+    requires { ⌜ t .0 < threads ⌝ }
     ensures { λ r. ⌜ ((p : Prog) → Judges s (λ m. leaves p m (t .0) i (getElem? (bufferIn s (t .0)) i)) r) ⌝ }
 {
     if buffer_len(s, t) <= i {
@@ -169,7 +170,7 @@ fn may_leave(s: State, t: Thread, i: u8) -> Verdict
 // Codes 64+l.
 fn may_persist(s: State, l: Loc) -> Verdict
     requires { ⌜ Valid s ⌝ }
-    requires { ⌜ l .0 < 6 ⌝ }
+    requires { ⌜ l .0 < locations ⌝ }
     ensures { λ r. ⌜ Judges s (λ m. persists m (l .0) (queueIn s (l .0))) r ⌝ }
 {
     if queue_len(s, l) == 0 {
@@ -183,7 +184,7 @@ fn may_persist(s: State, l: Loc) -> Verdict
 fn may_step(p: Program, s: State, t: Thread) -> Verdict
     requires { ⌜ legal p ≡ true ⌝ }
     requires { ⌜ Valid s ⌝ }
-    requires { ⌜ t .0 < 4 ⌝ }
+    requires { ⌜ t .0 < threads ⌝ }
     ensures { λ r. ⌜ Judges s (λ m. next (progOf p) join m (t .0) (instruction p s (t .0))) r ⌝ }
 {
     let at = t.0 as usize;

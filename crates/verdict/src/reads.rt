@@ -3,6 +3,7 @@ ghost use mathlib.Core.Path.{_≡_};
 ghost use mathlib.Core.List.{List, _∷_, []};
 ghost use Prim.Native.Nat.{ℕ, _<_, _≤_};
 ghost use lib.ListN.{length, take};
+ghost use Rattle.names.specs.Names.{threads, locations};
 ghost use Rattle.program.specs.Program.{Prog};
 ghost use Rattle.px86.specs.Step.{stored, written, reads, clear, allClear, fenced, blocks, passes};
 ghost use Rattle.state.specs.State.{markOf, entryIn, queuesIn, queueIn, bufferIn, Valid};
@@ -45,7 +46,7 @@ fn after_entry(l: Loc, v: u8, x: Slot) -> u8
 // The newest write to l in its queue, or `old` where there is none.
 fn newest_queued(s: State, l: Loc, old: u8) -> u8
     requires { ⌜ Valid s ⌝ }
-    requires { ⌜ l .0 < 6 ⌝ }
+    requires { ⌜ l .0 < locations ⌝ }
     ensures { λ r. ⌜ r ≡ written (l .0) old (queueIn s (l .0)) ⌝ }
 {
     let at = l.0 as usize;
@@ -65,7 +66,7 @@ fn newest_queued(s: State, l: Loc, old: u8) -> u8
 // The newest store to l in the buffer of t, or `old` where there is none.
 fn newest_buffered(s: State, t: Thread, l: Loc, old: u8) -> u8
     requires { ⌜ Valid s ⌝ }
-    requires { ⌜ t .0 < 4 ⌝ }
+    requires { ⌜ t .0 < threads ⌝ }
     ensures { λ r. ⌜ r ≡ stored (l .0) old (bufferIn s (t .0)) ⌝ }
 {
     let at = t.0 as usize;
@@ -85,7 +86,7 @@ fn newest_buffered(s: State, t: Thread, l: Loc, old: u8) -> u8
 // What t reads at l: its newest store to l, else the newest write in l's queue, else memory.
 pub fn read(s: State, t: Thread, l: Loc) -> u8
     requires { ⌜ Valid s ⌝ }
-    requires { ⌜ (t .0 < 4) × (l .0 < 6) ⌝ }
+    requires { ⌜ (t .0 < threads) × (l .0 < locations) ⌝ }
     ensures { λ r. ⌜ ((p : Prog) (ns : List ℕ) (g : File) → r ≡ reads p (over s ns g) (t .0) (l .0)) ⌝ }
 {
     let at = l.0 as usize;
@@ -98,7 +99,7 @@ pub fn read(s: State, t: Thread, l: Loc) -> u8
 // Whether the queue of l holds no fo of t.
 fn queue_clear(s: State, t: Thread, l: Loc) -> bool
     requires { ⌜ Valid s ⌝ }
-    requires { ⌜ (t .0 < 4) × (l .0 < 6) ⌝ }
+    requires { ⌜ (t .0 < threads) × (l .0 < locations) ⌝ }
     ensures { λ r. ⌜ r ≡ clear (t .0) (queueIn s (l .0)) ⌝ }
 {
     let at = l.0 as usize;
@@ -120,7 +121,7 @@ fn queue_clear(s: State, t: Thread, l: Loc) -> bool
 // Whether no queue holds one.
 pub fn all_clear(s: State, t: Thread) -> bool
     requires { ⌜ Valid s ⌝ }
-    requires { ⌜ t .0 < 4 ⌝ }
+    requires { ⌜ t .0 < threads ⌝ }
     ensures { λ r. ⌜ r ≡ allClear (t .0) (queuesIn s) ⌝ }
 {
     let mut l: u8 = 0;
@@ -136,7 +137,7 @@ pub fn all_clear(s: State, t: Thread) -> bool
 // Whether mf or a locked operation of t may be done: its buffer is empty, and no queue holds an fo of it.
 pub fn is_fenced(s: State, t: Thread) -> bool
     requires { ⌜ Valid s ⌝ }
-    requires { ⌜ t .0 < 4 ⌝ }
+    requires { ⌜ t .0 < threads ⌝ }
     ensures { λ r. ⌜ ((ns : List ℕ) (g : File) → r ≡ fenced (over s ns g) (t .0)) ⌝ }
 {
     if buffer_len(s, t) == 0 {
@@ -162,7 +163,7 @@ fn stops(l: Loc, x: Slot) -> bool
 // Whether an fo of l may overtake all that is older than place i of the buffer of t.
 pub fn overtakes(s: State, t: Thread, l: Loc, i: u8) -> bool
     requires { ⌜ Valid s ⌝ }
-    requires { ⌜ (t .0 < 4) × (i ≤ length (bufferIn s (t .0))) ⌝ }
+    requires { ⌜ (t .0 < threads) × (i ≤ length (bufferIn s (t .0))) ⌝ }
     ensures { λ r. ⌜ ((p : Prog) → r ≡ passes p (l .0) (take i (bufferIn s (t .0)))) ⌝ }
 {
     let at = t.0 as usize;
