@@ -1,5 +1,5 @@
 -- The loop of `follow`: what is left to be followed from the state in hand gives what the whole list gives from the start. Assumes nothing.
-use mathlib.Core.Path.{_≡_, refl, ap, sym, _∙_}
+use mathlib.Core.Path.{_≡_, ap, sym, _∙_}
 use mathlib.Core.List.{List}
 use Prim.Native.Nat.{ℕ, suc, _+_, _<_, _≤_}
 use native.Mathlib.Numerals.{add-one}
@@ -9,7 +9,7 @@ use lib.Seq.{drop-cons, drop-length}
 use Rattle.program.specs.Program.{Prog}
 use Rattle.px86.specs.Machine.{Machine, start}
 use Rattle.px86.specs.Step.{Stepped, step}
-use Rattle.px86.specs.Step.Stepped.{to, barred, full}
+use Rattle.px86.specs.Step.Stepped.{to}
 use Rattle.px86.specs.Runs.{follow}
 use Rattle.px86.specs.Runs.Followed.{at, stopped, noPlace}
 use Rattle.px86.proofs.Follow.{follow-nil, follow-to, follow-barred, follow-full}
@@ -17,20 +17,10 @@ use Rattle.state.specs.State.{File, machineOf, Valid, Starts, noRegisters}
 use Rattle.state.specs.declared.State.{State}
 use Rattle.machine.specs.Registers.{loadedOf}
 use Rattle.verdict.specs.Verdict.{verdictOf}
+use Rattle.verdict.proofs.Judging.{is-barred, is-full}
 use Rattle.machine.specs.Taken.{Takes}
 use Rattle.machine.specs.declared.step.Next.{Next}
 use Rattle.verdict.specs.declared.Verdict.the-variants.{Barred, NoRoom}
-
--- a step that is judged so is so
-pub is-barred : (x : Stepped) → verdictOf x ≡ Barred → x ≡ barred
-is-barred (to m) e = let z : _≡_ {A = ℕ} 0 1 = cc in absurd (omega arith)
-is-barred barred e = refl
-is-barred full e = let z : _≡_ {A = ℕ} 0 1 = cc in absurd (omega arith)
-
-pub is-full : (x : Stepped) → verdictOf x ≡ NoRoom → x ≡ full
-is-full (to m) e = let z : _≡_ {A = ℕ} 0 1 = cc in absurd (omega arith)
-is-full barred e = let z : _≡_ {A = ℕ} 0 1 = cc in absurd (omega arith)
-is-full full e = refl
 
 module _ (p : Prog) (cs : List ℕ) where
   -- the state s with the registers g, and the codes from i on

@@ -59,7 +59,7 @@ unfolding moved
 shape-moved m t n h = kept m _ (length-set (m .places) t n) refl refl refl refl h
 
 -- a list of lists with one of them changed for one of its length
-set-each : {A : Type 0} (xss : List (List A)) (t s : ℕ) (ys : List A) → length ys ≡ length (getD xss t []) → length (getD (set xss t ys) s []) ≡ length (getD xss s [])
+pub set-each : {A : Type 0} (xss : List (List A)) (t s : ℕ) (ys : List A) → length ys ≡ length (getD xss t []) → length (getD (set xss t ys) s []) ≡ length (getD xss s [])
 set-each [] t s ys e = refl
 set-each (xs ∷ xss) zero zero ys e = e
 set-each (xs ∷ xss) zero (suc s) ys e = refl

@@ -1,4 +1,4 @@
--- What the verdict on a step rests on: whether a buffer or queue is empty. Assumes nothing.
+-- What the verdict on a step rests on: whether a buffer or queue is empty; and what it says of the step. Assumes nothing.
 use Prim.Native.Nat.{ℕ, zero, suc, _≤_, _<_}
 use mathlib.Core.Path.{_≡_, refl}
 use mathlib.Core.Bool.{true, false}
@@ -9,9 +9,10 @@ use lib.Dec.{eqb}
 use lib.ListN.{length, take}
 use Rattle.px86.specs.Machine.{Mark, Machine}
 use Rattle.px86.specs.Machine.Mark.{write, opt}
-use Rattle.px86.specs.Step.{empty, persists}
+use Rattle.px86.specs.Step.{Stepped, empty, persists}
+use Rattle.px86.specs.Step.Stepped.{to, barred, full}
 use Rattle.verdict.specs.Verdict.{verdictOf}
-use Rattle.verdict.specs.declared.Verdict.the-variants.{Allowed, Barred}
+use Rattle.verdict.specs.declared.Verdict.the-variants.{Allowed, Barred, NoRoom}
 
 module _ {A : Type 0} where
   pub empty-none : (l : List A) → length l ≡ 0 → empty l ≡ true
@@ -40,3 +41,14 @@ module _ (m : Machine) (n : ℕ) where
   persists-some [] h = absurd (omega arith)
   persists-some (write l v ∷ q) h = refl
   persists-some (opt t ∷ q) h = refl
+
+-- a step that is judged so is so
+pub is-barred : (x : Stepped) → verdictOf x ≡ Barred → x ≡ barred
+is-barred (to m) e = let z : _≡_ {A = ℕ} 0 1 = cc in absurd (omega arith)
+is-barred barred e = refl
+is-barred full e = let z : _≡_ {A = ℕ} 0 1 = cc in absurd (omega arith)
+
+pub is-full : (x : Stepped) → verdictOf x ≡ NoRoom → x ≡ full
+is-full (to m) e = let z : _≡_ {A = ℕ} 0 1 = cc in absurd (omega arith)
+is-full barred e = let z : _≡_ {A = ℕ} 0 1 = cc in absurd (omega arith)
+is-full full e = refl
