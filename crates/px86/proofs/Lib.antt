@@ -10,6 +10,8 @@ pub mod Exact
 pub mod Before
 pub mod Order
 pub mod Bound
+pub mod Safe
+pub mod Room
 pub mod Done
 pub mod Follow
 pub mod Slots
