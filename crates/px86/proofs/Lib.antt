@@ -12,6 +12,7 @@ pub mod Order
 pub mod Bound
 pub mod Safe
 pub mod Room
+pub mod Sorted
 pub mod Done
 pub mod Follow
 pub mod Slots
