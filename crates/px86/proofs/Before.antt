@@ -85,3 +85,9 @@ before-other [] [] d e = absurd (false≢true (sym d))
 before-other [] (y ∷ b) d e = absurd (false≢true (sym e))
 before-other (x ∷ a) [] d e = refl
 before-other (x ∷ a) (y ∷ b) d e = made y x b a (other-tests x y a b (before-other a b) (ltb x y) (eqb x y) refl refl d e)
+
+-- two lists neither of which is before the other are one
+pub before-level : (r s : List ℕ) → (s ≡ r) ⊎ Before s r → (r ≡ s) ⊎ Before r s → s ≡ r
+before-level r s (inl e) k = e
+before-level r s (inr h) (inl e) = sym e
+before-level r s (inr h) (inr k) = absurd (before-asym s r h k)

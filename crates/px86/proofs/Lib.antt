@@ -13,6 +13,7 @@ pub mod Bound
 pub mod Safe
 pub mod Room
 pub mod Sorted
+pub mod Places
 pub mod Done
 pub mod Follow
 pub mod Slots

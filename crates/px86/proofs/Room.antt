@@ -114,6 +114,14 @@ module _ (p : Program) (ok : legal p ≡ true) where
   unfolding start
   never-full = never-full-from (progOf p) (legal-few p ok) (kept p ok .short) [] (omega arith)
 
+-- what the laws on questions ask of a program, and every legal one is such
+pub record Fit (p : Prog) : Type 0 where
+  pub few : Few p
+  pub roomy : Roomy (events p)
+
+pub legal-fit : (p : Program) → legal p ≡ true → Fit (progOf p)
+legal-fit p ok = record { few = legal-few p ok; roomy = roomy p ok }
+
 -- no event is a step without room
 pub no-lack : (es : List Event) → Roomy es → List·Memᴰ noRoom es → ⊥
 no-lack [] h i = List·Memᴰ·not-nil i

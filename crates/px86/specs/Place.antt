@@ -33,10 +33,13 @@ placeIn r (noRoom ∷ es) = placeIn r es
 unfoldable pub placeOf : Prog → List ℕ → ℕ
 placeOf p r = placeIn r (events p)
 
--- r is a run, "a list of codes, each allowed in its turn from the start", and leaves the memory v
+-- r is a run, "a list of codes, each allowed in its turn from the start", and comes to m; it leaves the memory v
+abbrev pub Comes : Prog → List ℕ → Machine → Type 0
+Comes p r m = after (step p) (to start) r ≡ to m
+
 pub record Leaves (p : Prog) (v r : List ℕ) : Type 0 where
   pub state : Machine
-  pub allowed : after (step p) (to start) r ≡ to state
+  pub allowed : Comes p r state
   pub is : v ≡ left p state
 
 -- some run leaves v
