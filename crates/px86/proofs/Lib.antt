@@ -14,6 +14,8 @@ pub mod Safe
 pub mod Room
 pub mod Sorted
 pub mod Places
+pub mod Gather
+pub mod Seek
 pub mod Done
 pub mod Follow
 pub mod Slots
