@@ -16,6 +16,8 @@ pub mod Sorted
 pub mod Places
 pub mod Gather
 pub mod Seek
+pub mod Asked
+pub mod All
 pub mod Done
 pub mod Follow
 pub mod Slots
