@@ -16,8 +16,10 @@ pub mod Sorted
 pub mod Places
 pub mod Gather
 pub mod Seek
+pub mod Search
 pub mod Asked
 pub mod All
+pub mod One
 pub mod Done
 pub mod Follow
 pub mod Slots
