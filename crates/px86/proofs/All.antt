@@ -1,6 +1,6 @@
 -- All memories asked for: "If the total is at most B: the total, .. and the memories in dictionary order"; else refusal 8; and refusal 9
 -- where they are longer than the lent buffer. Each exactly where document 01 says so. Assumes nothing.
-use mathlib.Core.Path.{_≡_, refl, sym, ap, _∙_, subst}
+use mathlib.Core.Path.{_≡_, refl, sym, ap, ap₂, _∙_, subst}
 use Prim.Native.Nat.{ℕ, _*_, _≤_, _<_}
 use native.Mathlib.Omega.{arith}
 use native.Mathlib.Decide.{decLt}
@@ -15,10 +15,11 @@ use Rattle.program.specs.Program.{Prog, progOf}
 use Rattle.program.specs.Program.Wanted.{all}
 use Rattle.program.specs.Legal.{legalAsked}
 use Rattle.program.specs.declared.Program.{Program}
-use Rattle.px86.specs.declared.Refusal.the-variants.{Over, TooLong}
+use Rattle.px86.specs.declared.Refusal.the-variants.{Illegal, WrongWant, Over, TooLong, Barred, NoRoom}
 use Rattle.px86.specs.Ask.{Answer, within, allOf, events, answered, ask}
-use Rattle.px86.specs.Ask.Answer.{every, none}
+use Rattle.px86.specs.Ask.Answer.{every, reached, never, none}
 use Rattle.px86.specs.Place.{total, LeftBy, Memories}
+use Rattle.px86.specs.Means.{AllListed, AllLong, MeansAll}
 use Rattle.px86.proofs.Bound.{exact}
 use Rattle.px86.proofs.Room.{Fit}
 use Rattle.px86.proofs.Sorted.{ascending-one}
@@ -30,9 +31,9 @@ unfoldable pub memories : Prog → List (List ℕ)
 memories p = gathered p [] (events p)
 
 module _ (p : Prog) (fit : Fit p) where
-  there : (v : List ℕ) → List·Memᴰ v (memories p) → LeftBy p v
+  left-by : (v : List ℕ) → List·Memᴰ v (memories p) → LeftBy p v
   unfolding memories
-  there v h =
+  left-by v h =
       elim (in-gathered p v (events p) [] h) [
         | inl i ↦ absurd (List·Memᴰ·not-nil i)
         | inr l ↦
@@ -42,21 +43,21 @@ module _ (p : Prog) (fit : Fit p) where
             }
       ]
 
-  back : (v : List ℕ) → LeftBy p v → List·Memᴰ v (memories p)
+  is-listed : (v : List ℕ) → LeftBy p v → List·Memᴰ v (memories p)
   unfolding memories
-  back v l =
+  is-listed v l =
       subst (λ (u : List ℕ). List·Memᴰ u (memories p)) (sym (l .leaves .is))
       (to-gathered p (l .codes) (l .leaves .state) (events p) [] (exact p (fit .few) (l .codes) (l .leaves .state) .1 (l .leaves .allowed)))
 
   -- they rise in dictionary order, and a memory is one of them exactly if some run leaves it; no other list is such
   pub memories-are : Memories p (memories p)
   unfolding memories
-  memories-are = record { ascending = gathered-ascending p (events p) [] tt; listed = λ v. (there v, back v) }
+  memories-are = record { ascending = gathered-ascending p (events p) [] tt; listed = λ v. (left-by v, is-listed v) }
 
   pub memories-only : (ms : List (List ℕ)) → Memories p ms → ms ≡ memories p
   memories-only ms are =
       ascending-one ms (memories p) (are .ascending) (memories-are .ascending)
-      (λ v. (λ h. back v (are .listed v .0 h), λ h. are .listed v .1 (there v h)))
+      (λ v. (λ h. is-listed v (are .listed v .0 h), λ h. are .listed v .1 (left-by v h)))
 
 module _ (p : Prog) (fit : Fit p) (b : ℕ) where
   pub answered-every : total p ≤ b → answered p (events p) b all ≡ every (total p) (memories p)
@@ -77,68 +78,61 @@ within-long : (lent locs n : ℕ) (ms : List (List ℕ)) → lent < length ms * 
 unfolding within pick
 within-long lent locs n ms h = ap (λ (t : Bool). pick t (every n ms) (none TooLong)) (lt-leb (length ms * locs) lent h)
 
--- ms are the memories that the runs leave: `memories-are` has them
-module _ (p : Program) (b : Budget) (lent : ℕ) (ok : legalAsked p b ≡ true) (ms : List (List ℕ)) (are : Memories (progOf p) ms) where
-  data Answers (a : Answer) : Type 0 where
-    listed : total (progOf p) ≤ b .0 → length ms * p .locs ≤ lent → a ≡ every (total (progOf p)) ms → Answers a
-    long : total (progOf p) ≤ b .0 → lent < length ms * p .locs → a ≡ none TooLong → Answers a
-    over : b .0 < total (progOf p) → a ≡ none (Over (b .0)) → Answers a
+module _ (p : Program) (b : Budget) (lent : ℕ) (ok : legalAsked p b ≡ true) where
+  asked-every : total (progOf p) ≤ b .0 → ask p b all lent ≡ within lent (p .locs) (every (total (progOf p)) (memories (progOf p)))
+  asked-every h =
+      ask-legal p b all lent ok ∙ ap (within lent (p .locs)) (answered-every (progOf p) (asked-fit p b ok) (b .0) h)
 
-  answers : Answers (ask p b all lent)
+  asked-over : b .0 < total (progOf p) → ask p b all lent ≡ none (Over (b .0))
   unfolding within
-  answers =
-      let fit = asked-fit p b ok in
+  asked-over h = ask-legal p b all lent ok ∙ ap (within lent (p .locs)) (answered-over (progOf p) (asked-fit p b ok) (b .0) h)
+
+  -- these are the memories, whatever list is known to have them
+  same-memories : (n : ℕ) (ms : List (List ℕ)) → Memories (progOf p) ms → n ≡ total (progOf p) → n ≤ b .0 → ask p b all lent ≡ within lent (p .locs) (every n ms)
+  same-memories n ms are e h =
+      asked-every (omega arith)
+      ∙ ap₂ (λ (k : ℕ) (ns : List (List ℕ)). within lent (p .locs) (every k ns)) (sym e) (sym (memories-only (progOf p) (asked-fit p b ok) ms are))
+
+  means : MeansAll (progOf p) (b .0) lent (ask p b all lent)
+  unfolding progOf
+  means =
       let q = progOf p in
-      let asked : ask p b all lent ≡ within lent (p .locs) (answered q (events q) (b .0) all) = ask-legal p b all lent ok in
+      let are : Memories q (memories q) = memories-are q (asked-fit p b ok) in
+      let size = length (memories q) * p .locs in
       elim (decLt (b .0) (total q)) [
-        | yes h ↦ over h (asked ∙ ap (within lent (p .locs)) (answered-over q fit (b .0) h))
+        | yes h ↦ rw (asked-over h) (refl, h)
         | no h ↦
-            let e : ask p b all lent ≡ within lent (p .locs) (every (total q) ms) =
-            asked ∙ ap (within lent (p .locs)) (answered-every q fit (b .0) (omega arith) ∙ ap (every (total q)) (sym (memories-only q fit ms are))) in
-            elim (decLt lent (length ms * p .locs)) [
-              | yes i ↦ long (omega arith) i (e ∙ within-long lent (p .locs) (total q) ms i)
-              | no i ↦ listed (omega arith) (omega arith) (e ∙ within-fits lent (p .locs) (total q) ms (omega arith))
+            elim (decLt lent size) [
+              | yes i ↦ rw (asked-every (omega arith), within-long lent (p .locs) (total q) (memories q) i) (record { within = omega arith; memories = memories q; are = are; long = i })
+              | no i ↦ rw (asked-every (omega arith), within-fits lent (p .locs) (total q) (memories q) (omega arith)) (record { is-total = refl; within = omega arith; are = are; fits = omega arith })
             ]
       ]
 
-  -- "If the total is at most B: the total, .. and the memories in dictionary order", where they fit the lent buffer
-  pub all-every : (n : ℕ) (ns : List (List ℕ)) → (ask p b all lent ≡ every n ns) ↔ ((total (progOf p) ≤ b .0) × (length ms * p .locs ≤ lent) × (n ≡ total (progOf p)) × (ns ≡ ms))
-  all-every n ns = (to (ask p b all lent) answers, from (ask p b all lent) answers)
-    where
-      to : (a : Answer) → Answers a → a ≡ every n ns → (total (progOf p) ≤ b .0) × (length ms * p .locs ≤ lent) × (n ≡ total (progOf p)) × (ns ≡ ms)
-      to a (listed h i e) f = (h, i, cc, cc)
-      to a (long h i e) f = let z : _≡_ {A = ℕ} 0 1 = cc in absurd (omega arith)
-      to a (over h e) f = let z : _≡_ {A = ℕ} 0 1 = cc in absurd (omega arith)
+  given : (a : Answer) → MeansAll (progOf p) (b .0) lent a → ask p b all lent ≡ a
+  unfolding progOf
+  given (every n ms) h = same-memories n ms (h .are) (h .is-total) (h .within) ∙ within-fits lent (p .locs) n ms (h .fits)
+  given (reached n r) h = absurd h
+  given (never n) h = absurd h
+  given (none Illegal) h = absurd h
+  given (none WrongWant) h = absurd h
+  given (none (Over k)) h = asked-over (h .1) ∙ ap (λ (i : ℕ). none (Over i)) (sym (h .0))
+  given (none TooLong) h =
+      same-memories (total (progOf p)) (h .memories) (h .are) refl (h .within) ∙ within-long lent (p .locs) (total (progOf p)) (h .memories) (h .long)
+  given (none (Barred i)) h = absurd h
+  given (none NoRoom) h = absurd h
 
-      from : (a : Answer) → Answers a → (total (progOf p) ≤ b .0) × (length ms * p .locs ≤ lent) × (n ≡ total (progOf p)) × (ns ≡ ms) → a ≡ every n ns
-      from a (listed h i e) f = let g = f .2 in let k = f .3 in cc
-      from a (long h i e) f = absurd (omega (arith, f .1))
-      from a (over h e) f = absurd (omega (arith, f .0))
+  -- an answer is given exactly if what it means holds
+  pub all-exactly : (a : Answer) → (ask p b all lent ≡ a) ↔ MeansAll (progOf p) (b .0) lent a
+  all-exactly a = (λ e. subst (MeansAll (progOf p) (b .0) lent) e means, given a)
+
+  -- "All. If the total is at most B: the total, .. and the memories in dictionary order"
+  pub all-every : (n : ℕ) (ms : List (List ℕ)) → (ask p b all lent ≡ every n ms) ↔ AllListed (progOf p) (b .0) lent n ms
+  all-every n ms = all-exactly (every n ms)
 
   -- "for "all", total over B": refusal 8, with the number B
-  pub all-over : (k : ℕ) → (ask p b all lent ≡ none (Over k)) ↔ ((b .0 < total (progOf p)) × (k ≡ b .0))
-  all-over k = (to (ask p b all lent) answers, from (ask p b all lent) answers)
-    where
-      to : (a : Answer) → Answers a → a ≡ none (Over k) → (b .0 < total (progOf p)) × (k ≡ b .0)
-      to a (listed h i e) f = let z : _≡_ {A = ℕ} 0 1 = cc in absurd (omega arith)
-      to a (long h i e) f = let z : _≡_ {A = ℕ} 0 1 = cc in absurd (omega arith)
-      to a (over h e) f = (h, cc)
-
-      from : (a : Answer) → Answers a → (b .0 < total (progOf p)) × (k ≡ b .0) → a ≡ none (Over k)
-      from a (listed h i e) f = absurd (omega (arith, f .0))
-      from a (long h i e) f = absurd (omega (arith, f .0))
-      from a (over h e) f = let g = f .1 in cc
+  pub all-over : (k : ℕ) → (ask p b all lent ≡ none (Over k)) ↔ ((k ≡ b .0) × (b .0 < total (progOf p)))
+  all-over k = all-exactly (none (Over k))
 
   -- "answer longer than the lent buffer": refusal 9, after all others
-  pub all-long : (ask p b all lent ≡ none TooLong) ↔ ((total (progOf p) ≤ b .0) × (lent < length ms * p .locs))
-  all-long = (to (ask p b all lent) answers, from (ask p b all lent) answers)
-    where
-      to : (a : Answer) → Answers a → a ≡ none TooLong → (total (progOf p) ≤ b .0) × (lent < length ms * p .locs)
-      to a (listed h i e) f = let z : _≡_ {A = ℕ} 0 1 = cc in absurd (omega arith)
-      to a (long h i e) f = (h, i)
-      to a (over h e) f = let z : _≡_ {A = ℕ} 0 1 = cc in absurd (omega arith)
-
-      from : (a : Answer) → Answers a → (total (progOf p) ≤ b .0) × (lent < length ms * p .locs) → a ≡ none TooLong
-      from a (listed h i e) f = absurd (omega (arith, f .1))
-      from a (long h i e) f = e
-      from a (over h e) f = absurd (omega (arith, f .0))
+  pub all-long : (ask p b all lent ≡ none TooLong) ↔ AllLong (progOf p) (b .0) lent
+  all-long = all-exactly (none TooLong)

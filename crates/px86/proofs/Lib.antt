@@ -20,6 +20,7 @@ pub mod Search
 pub mod Asked
 pub mod All
 pub mod One
+pub mod Refused
 pub mod Done
 pub mod Follow
 pub mod Slots

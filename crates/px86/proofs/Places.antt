@@ -7,7 +7,7 @@ use native.Mathlib.Decide.{decLt}
 use mathlib.Core.Bool.{Bool, true, false}
 use mathlib.Core.Logic.{_↔_, _⊎_, inl, inr}
 use mathlib.Core.Option.{some}
-use mathlib.Core.List.{List, [], _∷_, List·Memᴰ, List·Memᴰ·head, List·Memᴰ·tail, List·Memᴰ·cases-cons, List·Memᴰ·not-nil}
+use mathlib.Core.List.{List, [], _∷_, _++_, append-nil, List·Memᴰ, List·Memᴰ·head, List·Memᴰ·tail, List·Memᴰ·cases-cons, List·Memᴰ·not-nil}
 use lib.ListN.{length, take, getElem?}
 use Rattle.names.specs.Names.{pick}
 use Rattle.tables.proofs.Found.{found-below, found-some}
@@ -17,7 +17,7 @@ use Rattle.px86.specs.Runs.{Event, walk}
 use Rattle.px86.specs.Runs.Event.{run, noRoom}
 use Rattle.px86.specs.Ask.{same, eventsFrom, events}
 use Rattle.px86.specs.Place.{count, total, placeIn, placeOf, Comes}
-use Rattle.px86.proofs.Before.{Before, before-irrefl, before-asym, before-level}
+use Rattle.px86.proofs.Before.{Before, before-irrefl, before-asym, before-level, before-between}
 use Rattle.px86.proofs.Order.{Rising, rising-places}
 use Rattle.px86.proofs.Bound.{exact, rising}
 use Rattle.px86.proofs.Room.{Roomy, Fit}
@@ -172,3 +172,12 @@ module _ (p : Prog) (fit : Fit p) where
     λ h. let x = first-runs (placeOf p r) s n .0 h in (x .0, place-order r s m n e (x .0) .0 (x .1)),
     λ h. first-runs (placeOf p r) s n .1 (h .0, place-order r s m n e (h .0) .1 (h .1)),
   )
+
+  -- "the places of a run's extensions follow at once": between a run and one that extends it there are only such as extend it
+  pub place-between : (r s x : List ℕ) (m n u : Machine) → Comes p r m → Comes p s n → Comes p (r ++ x) u → placeOf p r ≤ placeOf p s → placeOf p s ≤ placeOf p (r ++ x) → (y : List ℕ) × (s ≡ r ++ y)
+  place-between r s x m n u e f g h k = extends (place-order s r n m f e .0 h) (place-order (r ++ x) s u n g f .0 k)
+    where
+      extends : (r ≡ s) ⊎ Before r s → (s ≡ r ++ x) ⊎ Before s (r ++ x) → (y : List ℕ) × (s ≡ r ++ y)
+      extends (inl i) j = ([], sym i ∙ sym (append-nil r))
+      extends (inr i) (inl j) = (x, j)
+      extends (inr i) (inr j) = before-between r s x i j

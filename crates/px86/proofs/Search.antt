@@ -66,3 +66,12 @@ module _ (p : Prog) (fit : Fit p) (w : List ℕ) (b : ℕ) where
 
   pub search-runs : Search (foldl (seek p w b) (going 0 []) (events p))
   search-runs = by _ (sought p w b (events p) 0 [] (fit .roomy) (omega arith))
+
+  -- if one of the first B runs leaves w, there is a first that does, and it is one of them
+  early-first : (x : Tally) → LeftEarly p b w → Search x → (r : List ℕ) × First p w r × (placeOf p r ≤ b)
+  early-first x l (hit r f h q) = (r, f, h)
+  early-first x l (miss f h q) = absurd (f (record { codes = l .codes; leaves = l .leaves }))
+  early-first x l (beyond f h q) = absurd (f l)
+
+  pub first-early : LeftEarly p b w → (r : List ℕ) × First p w r × (placeOf p r ≤ b)
+  first-early l = early-first _ l search-runs
