@@ -20,9 +20,10 @@ pub mod Search
 pub mod Asked
 pub mod All
 pub mod One
-pub mod Refused
 pub mod Done
 pub mod Follow
+pub mod Told
+pub mod Refused
 pub mod Slots
 pub mod Codes
 pub mod Waits
@@ -31,5 +32,4 @@ pub mod Rows
 pub mod Cases
 pub mod Slips
 pub mod Numbers
-pub mod Told
 pub mod Unique

@@ -26,7 +26,7 @@ use Rattle.px86.specs.Means.{Found, Missed, Beyond, RunLong, MeansOne}
 use Rattle.px86.proofs.Room.{Fit}
 use Rattle.px86.proofs.Search.{Search, search-runs, first-once, first-early}
 use Rattle.px86.proofs.Search.Search.{hit, miss, beyond}
-use Rattle.px86.proofs.Asked.{ask-legal, asked-fit}
+use Rattle.px86.proofs.Asked.{ask-legal, asked-ok, asked-fit, left-sized}
 
 -- what the search comes to where what an answer means holds: the three leave no room for one another
 module _ (p : Prog) (fit : Fit p) (w : List ℕ) (b : ℕ) where
@@ -145,8 +145,9 @@ module _ (p : Program) (b : Budget) (w : List ℕ) (lent : ℕ) (ok : legalAsked
   one-wrong = one-exactly (none WrongWant)
 
   -- "If one of the first B runs leaves it, B the budget": there is a first such run, and it is answered if it fits the lent buffer
-  pub one-early : length w ≡ p .locs → LeftEarly (progOf p) (b .0) w → (r : List ℕ) × First (progOf p) w r × (placeOf (progOf p) r ≤ b .0) × (length r ≤ lent → ask p b (one w) lent ≡ reached (placeOf (progOf p) r) r)
+  pub one-early : LeftEarly (progOf p) (b .0) w → (r : List ℕ) × First (progOf p) w r × (placeOf (progOf p) r ≤ b .0) × (length r ≤ lent → ask p b (one w) lent ≡ reached (placeOf (progOf p) r) r)
   unfolding progOf
-  one-early e l =
+  one-early l =
+      let e : length w ≡ p .locs = left-sized p (asked-ok p b ok) w (l .codes) (l .leaves) in
       let f = first-early (progOf p) (asked-fit p b ok) w (b .0) l in
       (f .0, f .1, f .2, λ h. given (reached _ (f .0)) (record { sized = e; first = f .1; place = refl; early = f .2 }, h))

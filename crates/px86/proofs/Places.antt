@@ -105,7 +105,8 @@ module _ (p : Prog) (fit : Fit p) where
   pub comes-at : (i : ℕ) (r : List ℕ) (m : Machine) → getElem? (events p) i ≡ some (run r m) → Comes p r m × (placeOf p r ≡ suc i)
   unfolding placeOf
   comes-at i r m e = (
-    exact p (fit .few) r m .0 (listed-at (events p) i (run r m) e), place-at (events p) (rising p) (fit .roomy) i r m e,
+    exact p (fit .few) r m .0 (listed-at (events p) i (run r m) e),
+    place-at (events p) (rising p) (fit .roomy) i r m e,
   )
 
   pub total-length : total p ≡ length (events p)

@@ -1,19 +1,20 @@
 -- "The persist queues have room for 32 entries each .. A store buffer has room for 8": no step of a legal program ever lacks room, so
 -- refusal 11 is never given. Assumes nothing.
-use mathlib.Core.Path.{_≡_, refl, ap, _∙_, subst}
+use mathlib.Core.Path.{_≡_, refl, ap, subst}
 use Prim.Native.Nat.{ℕ, zero, suc, _*_, _≤_}
 use native.Mathlib.Omega.{arith}
 use mathlib.Core.Bool.{true}
 use mathlib.Core.Logic.{inl, inr}
 use mathlib.Core.List.{List, [], _∷_, _++_, List·Memᴰ, List·Memᴰ·not-nil, List·Memᴰ·cases-cons}
 use lib.ListN.{length, getD}
+use lib.Seq.{length-take-le}
 use Rattle.names.specs.Names.{locations}
 use Rattle.program.specs.Program.{Prog, progOf, mostOps}
 use Rattle.program.specs.Legal.{legal}
 use Rattle.program.specs.declared.Op.{Op}
 use Rattle.program.specs.declared.Program.{Program}
 use Rattle.program.proofs.Legal.{kept}
-use Rattle.px86.specs.Machine.{Machine, from, start}
+use Rattle.px86.specs.Machine.{Machine, from, start, left}
 use Rattle.px86.specs.Step.{Stepped, step}
 use Rattle.px86.specs.Step.Stepped.{to, barred, full}
 use Rattle.px86.specs.Runs.{Steps, entries, Event, met, tries, walk, codes, after}
@@ -22,7 +23,6 @@ use Rattle.px86.specs.Ask.{eventsFrom, events}
 use Rattle.px86.proofs.Then.{Then}
 use Rattle.px86.proofs.Shape.{Shape, shape-from, shape-step}
 use Rattle.px86.proofs.Few.{Few, legal-few}
-use Rattle.px86.proofs.After.{after-barred}
 use Rattle.px86.proofs.Bound.{fresh}
 use Rattle.px86.proofs.Done.{unheld}
 use Rattle.px86.proofs.Safe.{Safe, ahead, weight, Spare, safe-step}
@@ -99,9 +99,14 @@ module _ (p : Prog) (few : Few p) (short : Short p) where
     unfolding eventsFrom
     roomy-from = walk-roomy (step p) Good good-step _ [] (from v) (shape-from v fits, spare-from v)
 
+    good-from : (cs : List ℕ) → Safe Good (after (step p) (to (from v)) cs)
+    good-from cs = after-safe (step p) Good good-step cs (to (from v)) (shape-from v fits, spare-from v)
+
     pub never-full-from : (cs : List ℕ) → after (step p) (to (from v)) cs ≡ full → ⊥
-    never-full-from cs e =
-        subst (Safe Good) e (after-safe (step p) Good good-step cs (to (from v)) (shape-from v fits, spare-from v))
+    never-full-from cs e = subst (Safe Good) e (good-from cs)
+
+    pub shape-run-from : (cs : List ℕ) (m : Machine) → after (step p) (to (from v)) cs ≡ to m → Shape m
+    shape-run-from cs m e = subst (Safe Good) e (good-from cs) .0
 
 module _ (p : Program) (ok : legal p ≡ true) where
   -- of a legal program every event is a run
@@ -113,6 +118,13 @@ module _ (p : Program) (ok : legal p ≡ true) where
   pub never-full : (cs : List ℕ) → after (step (progOf p)) (to start) cs ≡ full → ⊥
   unfolding start
   never-full = never-full-from (progOf p) (legal-few p ok) (kept p ok .short) [] (omega arith)
+
+  -- "one byte for each location": so long is what any run leaves
+  pub left-length : (cs : List ℕ) (m : Machine) → after (step (progOf p)) (to start) cs ≡ to m → length (left (progOf p) m) ≡ p .locs
+  unfolding start left progOf
+  left-length cs m e =
+      let s : Shape m = shape-run-from (progOf p) (legal-few p ok) (kept p ok .short) [] (omega arith) cs m e in
+      length-take-le (p .locs) (m .memory) (omega (arith, s .memory, kept p ok .few-locs))
 
 -- what the laws on questions ask of a program, and every legal one is such
 pub record Fit (p : Prog) : Type 0 where

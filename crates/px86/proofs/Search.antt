@@ -48,10 +48,10 @@ module _ (p : Prog) (fit : Fit p) (w : List ℕ) (b : ℕ) where
       record {
         leaves = record { state = m; allowed = c .0; is = is };
         least = λ s l.
-        elim (decLt i (placeOf p s)) [
-          | yes q ↦ turn (place-order p fit s r (l .state) m (l .allowed) (c .0) .0 (omega (arith, c .1)))
-          | no q ↦ absurd (missed i g s l (omega arith))
-        ];
+            elim (decLt i (placeOf p s)) [
+              | yes q ↦ turn (place-order p fit s r (l .state) m (l .allowed) (c .0) .0 (omega (arith, c .1)))
+              | no q ↦ absurd (missed i g s l (omega arith))
+            ];
       }
 
   by : (x : Tally) → Sought p w b 0 [] (events p) x → Search x
