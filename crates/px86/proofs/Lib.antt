@@ -1,4 +1,5 @@
--- The laws of the machine, and the computed tables. What holds of one step, then of runs, then of following and of slots; then the tables.
+-- The laws of the machine, and the computed tables. What holds of one step, then of runs, of their places and of the answers, then of following
+-- and of slots; then the tables.
 pub mod Then
 pub mod Shape
 pub mod Few

@@ -9,6 +9,7 @@ use mathlib.Core.Logic.{_↔_, _⊎_, inl, inr}
 use mathlib.Core.Option.{some}
 use mathlib.Core.List.{List, [], _∷_, _++_, append-nil, List·Memᴰ, List·Memᴰ·head, List·Memᴰ·tail, List·Memᴰ·cases-cons, List·Memᴰ·not-nil}
 use lib.ListN.{length, take, getElem?}
+use lib.Seq.{length-take-le}
 use Rattle.names.specs.Names.{pick}
 use Rattle.tables.proofs.Found.{found-below, found-some}
 use Rattle.program.specs.Program.{Prog}
@@ -20,7 +21,7 @@ use Rattle.px86.specs.Place.{count, total, placeIn, placeOf, Comes}
 use Rattle.px86.proofs.Before.{Before, before-irrefl, before-asym, before-level, before-between}
 use Rattle.px86.proofs.Order.{Rising, rising-places}
 use Rattle.px86.proofs.Bound.{exact, rising}
-use Rattle.px86.proofs.Room.{Roomy, Fit}
+use Rattle.px86.proofs.Room.{Roomy, no-lack, Fit}
 use Rattle.px86.proofs.Sorted.{same-eq, same-true}
 
 -- what is in a list stands at an index, and the first k elements at those below k
@@ -88,12 +89,6 @@ pub record At (p : Prog) (r : List ℕ) (m : Machine) : Type 0 where
   pub here : getElem? (events p) index ≡ some (run r m)
   pub place : placeOf p r ≡ suc index
 
-lacks : (es : List Event) → Roomy es → (i : ℕ) → getElem? es i ≡ some noRoom → ⊥
-lacks [] h i e = let z : _≡_ {A = ℕ} 0 1 = cc in omega arith
-lacks (run r m ∷ es) h zero e = let z : _≡_ {A = ℕ} 0 1 = cc in omega arith
-lacks (run r m ∷ es) h (suc i) e = lacks es h i e
-lacks (noRoom ∷ es) h i e = h
-
 module _ (p : Prog) (fit : Fit p) where
   -- the runs are those that are listed
   pub at : (r : List ℕ) (m : Machine) → Comes p r m → At p r m
@@ -122,7 +117,7 @@ module _ (p : Prog) (fit : Fit p) where
   -- each number from 1 to the total is the place of a run
   onto : (i : ℕ) (x : Event) → getElem? (events p) i ≡ some x → (r : List ℕ) × (m : Machine) × Comes p r m × (placeOf p r ≡ suc i)
   onto i (run r m) e = let c = comes-at i r m e in (r, m, c .0, c .1)
-  onto i noRoom e = absurd (lacks (events p) (fit .roomy) i e)
+  onto i noRoom e = absurd (no-lack (events p) (fit .roomy) (listed-at (events p) i noRoom e))
 
   pub place-onto : (k : ℕ) → 1 ≤ k → k ≤ total p → (r : List ℕ) × (m : Machine) × Comes p r m × (placeOf p r ≡ k)
   place-onto zero h i = absurd (omega arith)
@@ -167,12 +162,15 @@ module _ (p : Prog) (fit : Fit p) where
       back : Comes p r m × (placeOf p r ≤ b) → List·Memᴰ (run r m) (take b (events p))
       back h = let x = at r m (h .0) in taken (events p) b (x .index) (run r m) (omega (arith, x .place, h .1)) (x .here)
 
-  -- so the first place-of-r runs are the runs up to and including r
+  -- "A run's place is the number of runs up to and including it": the first so many are those, and they are so many
   pub runs-up-to : (r s : List ℕ) (m n : Machine) → Comes p r m → List·Memᴰ (run s n) (take (placeOf p r) (events p)) ↔ (Comes p s n × ((s ≡ r) ⊎ Before s r))
   runs-up-to r s m n e = (
     λ h. let x = first-runs (placeOf p r) s n .0 h in (x .0, place-order r s m n e (x .0) .0 (x .1)),
     λ h. first-runs (placeOf p r) s n .1 (h .0, place-order r s m n e (h .0) .1 (h .1)),
   )
+
+  pub number-up-to : (r : List ℕ) (m : Machine) → Comes p r m → length (take (placeOf p r) (events p)) ≡ placeOf p r
+  number-up-to r m e = length-take-le (placeOf p r) (events p) (omega (arith, place-within r m e .1, total-length))
 
   -- "the places of a run's extensions follow at once": between a run and one that extends it there are only such as extend it
   pub place-between : (r s x : List ℕ) (m n u : Machine) → Comes p r m → Comes p s n → Comes p (r ++ x) u → placeOf p r ≤ placeOf p s → placeOf p s ≤ placeOf p (r ++ x) → (y : List ℕ) × (s ≡ r ++ y)

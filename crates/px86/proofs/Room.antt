@@ -8,7 +8,7 @@ use mathlib.Core.Logic.{inl, inr}
 use mathlib.Core.List.{List, [], _∷_, _++_, List·Memᴰ, List·Memᴰ·not-nil, List·Memᴰ·cases-cons}
 use lib.ListN.{length, getD}
 use lib.Seq.{length-take-le}
-use Rattle.names.specs.Names.{locations}
+use Rattle.names.specs.Names.{threads, locations}
 use Rattle.program.specs.Program.{Prog, progOf, mostOps}
 use Rattle.program.specs.Legal.{legal}
 use Rattle.program.specs.declared.Op.{Op}
@@ -32,6 +32,13 @@ abbrev pub Roomy : List Event → Type 0
 Roomy [] = Unit {0}
 Roomy (run r m ∷ es) = Roomy es
 Roomy (noRoom ∷ es) = ⊥
+
+-- so none is a step without room
+pub no-lack : (es : List Event) → Roomy es → List·Memᴰ noRoom es → ⊥
+no-lack [] h i = List·Memᴰ·not-nil i
+no-lack (run r m ∷ es) h i =
+    elim (List·Memᴰ·cases-cons i) [ inl e ↦ let z : _≡_ {A = ℕ} 0 1 = cc in omega arith | inr j ↦ no-lack es h j ]
+no-lack (noRoom ∷ es) h i = h
 
 roomy-append : (es fs : List Event) → Roomy es → Roomy fs → Roomy (es ++ fs)
 roomy-append [] fs h k = k
@@ -84,7 +91,7 @@ module _ (p : Prog) (few : Few p) (short : Short p) where
   spare-from v =
       record {
         each = λ t. omega (arith, short t, ap length (unheld (from v .buffers) refl t));
-        whole = omega (arith, few-ops (p .threads) short, fresh (p .threads) 4 few);
+        whole = omega (arith, few-ops (p .threads) short, fresh (p .threads) threads few);
       }
 
   -- a state that has its shape and room
@@ -109,12 +116,15 @@ module _ (p : Prog) (few : Few p) (short : Short p) where
     shape-run-from cs m e = subst (Safe Good) e (good-from cs) .0
 
 module _ (p : Program) (ok : legal p ≡ true) where
-  -- of a legal program every event is a run
+  -- of a legal program every event is a run, and none a step without room
   pub roomy : Roomy (events (progOf p))
   unfolding events
   roomy = roomy-from (progOf p) (legal-few p ok) (kept p ok .short) [] (omega arith)
 
-  -- and no list of codes ever lacks room
+  pub never-lacks : List·Memᴰ noRoom (events (progOf p)) → ⊥
+  never-lacks = no-lack (events (progOf p)) roomy
+
+  -- no list of codes ever lacks room
   pub never-full : (cs : List ℕ) → after (step (progOf p)) (to start) cs ≡ full → ⊥
   unfolding start
   never-full = never-full-from (progOf p) (legal-few p ok) (kept p ok .short) [] (omega arith)
@@ -133,10 +143,3 @@ pub record Fit (p : Prog) : Type 0 where
 
 pub legal-fit : (p : Program) → legal p ≡ true → Fit (progOf p)
 legal-fit p ok = record { few = legal-few p ok; roomy = roomy p ok }
-
--- no event is a step without room
-pub no-lack : (es : List Event) → Roomy es → List·Memᴰ noRoom es → ⊥
-no-lack [] h i = List·Memᴰ·not-nil i
-no-lack (run r m ∷ es) h i =
-    elim (List·Memᴰ·cases-cons i) [ inl e ↦ let z : _≡_ {A = ℕ} 0 1 = cc in omega arith | inr j ↦ no-lack es h j ]
-no-lack (noRoom ∷ es) h i = h
