@@ -42,7 +42,7 @@ module _ {go : Steps} {weigh : Machine → ℕ} {Kept : Machine → Type 0} (law
       let b : Begun go m c cs end = begun go m c cs end e in
       small cs (b .next) end (b .rest) i
 
-fresh : (oss : List (List Op)) (n : ℕ) → length oss ≤ n → leftOver oss (replicate n 0) ≡ entries oss
+pub fresh : (oss : List (List Op)) (n : ℕ) → length oss ≤ n → leftOver oss (replicate n 0) ≡ entries oss
 unfolding leftOver entries
 fresh [] n h = refl
 fresh (os ∷ oss) zero h = absurd (omega arith)

@@ -31,14 +31,14 @@ entries-set (xs ∷ xss) zero ys = omega arith
 entries-set (xs ∷ xss) (suc t) ys = omega (arith, entries-set xss t ys)
 
 -- a place further on leaves no more instructions, and past one that is there it leaves fewer
-later : (oss : List (List Op)) (ns : List ℕ) (t n : ℕ) → getD ns t 0 ≤ n → leftOver oss (set ns t n) ≤ leftOver oss ns
+pub later : (oss : List (List Op)) (ns : List ℕ) (t n : ℕ) → getD ns t 0 ≤ n → leftOver oss (set ns t n) ≤ leftOver oss ns
 unfolding leftOver
 later [] ns t n h = omega arith
 later (os ∷ oss) [] t n h = omega arith
 later (os ∷ oss) (k ∷ ns) zero n h = omega arith
 later (os ∷ oss) (k ∷ ns) (suc t) n h = omega (arith, later oss ns t n h)
 
-past : (oss : List (List Op)) (ns : List ℕ) (t : ℕ) (o : Op) → length oss ≤ length ns → getElem? (getD oss t []) (getD ns t 0) ≡ some o → leftOver oss (set ns t (suc (getD ns t 0))) < leftOver oss ns
+pub past : (oss : List (List Op)) (ns : List ℕ) (t : ℕ) (o : Op) → length oss ≤ length ns → getElem? (getD oss t []) (getD ns t 0) ≡ some o → leftOver oss (set ns t (suc (getD ns t 0))) < leftOver oss ns
 unfolding leftOver
 past [] ns t o h e = let z : _≡_ {A = ℕ} 0 1 = cc in omega arith
 past (os ∷ oss) [] t o h e = omega arith

@@ -1,4 +1,5 @@
--- The laws of the machine, and the computed tables. What holds of one step, then of runs, then of following and of slots; then the tables.
+-- The laws of the machine, and the computed tables. What holds of one step, then of runs, of their places and of the answers, then of following
+-- and of slots; then the tables.
 pub mod Then
 pub mod Shape
 pub mod Few
@@ -10,8 +11,20 @@ pub mod Exact
 pub mod Before
 pub mod Order
 pub mod Bound
+pub mod Safe
+pub mod Room
+pub mod Sorted
+pub mod Places
+pub mod Gather
+pub mod Seek
+pub mod Search
+pub mod Asked
+pub mod All
+pub mod One
 pub mod Done
 pub mod Follow
+pub mod Told
+pub mod Refused
 pub mod Slots
 pub mod Codes
 pub mod Waits
@@ -20,5 +33,4 @@ pub mod Rows
 pub mod Cases
 pub mod Slips
 pub mod Numbers
-pub mod Told
 pub mod Unique

@@ -3,11 +3,13 @@ use Prim.Native.Nat.{ℕ}
 use mathlib.Core.Path.{_≡_, refl}
 use mathlib.Core.List.{List, [], _∷_, _++_, map}
 use lib.ListN.{replicate}
+use Rattle.program.specs.Program.Wanted.{all, one}
 use Rattle.program.specs.declared.Op.{Op}
-use Rattle.px86.specs.declared.Refusal.the-variants.{Barred}
+use Rattle.px86.specs.declared.Refusal.the-variants.{Illegal, WrongWant, Over, Barred}
 use Rattle.px86.specs.Ask.Told.{refused}
+use Rattle.px86.specs.Ask.Answer.{every, reached, never, none}
 use Rattle.px86.proofs.Rows.{st, sr, ld, cas, faa, mf, sf, fl, fo, bz, gives, Row, actual, expected}
-use Rattle.px86.proofs.Rows.Row.{follows}
+use Rattle.px86.proofs.Rows.Row.{asks, follows}
 
 -- a thread of eight stores, and a code eight times
 eight : List Op
@@ -74,6 +76,17 @@ slips =
     ∷ follows (eight ∷ []) 1 (times 0) (gives [] [] (8 ∷ []))
     ∷ follows (eight ∷ eight ∷ eight ∷ eight ∷ []) 1 (times 0 ++ times 16 ++ times 1 ++ times 24 ++ times 2 ++ times 32 ++ times 3 ++ times 40)
     (gives [] [] (8 ∷ 8 ∷ 8 ∷ 8 ∷ []))
+    -- case 2, one memory: reached, at its place and not at the one before; never, with all runs seen; one value too many
+    ∷ asks ((st 0 5 ∷ []) ∷ []) 1 4 (one (5 ∷ [])) (reached 4 (0 ∷ 16 ∷ 64 ∷ []))
+    ∷ asks ((st 0 5 ∷ []) ∷ []) 1 3 (one (5 ∷ [])) (none (Over 3))
+    ∷ asks ((st 0 5 ∷ []) ∷ []) 1 3 (one (0 ∷ [])) (reached 1 [])
+    ∷ asks ((st 0 5 ∷ []) ∷ []) 1 4 (one (1 ∷ [])) (never 4)
+    ∷ asks ((st 0 5 ∷ []) ∷ []) 1 4 (one (5 ∷ 0 ∷ [])) (none WrongWant)
+    -- a total equal to the budget is not over it
+    ∷ asks ((st 0 5 ∷ []) ∷ []) 1 4 all (every 4 ((0 ∷ []) ∷ (5 ∷ []) ∷ []))
+    -- a location that is not there, no budget
+    ∷ asks ((st 1 5 ∷ []) ∷ []) 1 4 all (none Illegal)
+    ∷ asks ((st 0 5 ∷ []) ∷ []) 1 0 all (none Illegal)
     ∷ []
 
 pub held : map actual slips ≡ map expected slips

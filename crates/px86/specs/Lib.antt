@@ -1,5 +1,7 @@
--- What a reader has to believe, in the order of document 01: the state, a step, the runs, the questions.
+-- What a reader has to believe, in the order of document 01: the state, a step, the runs, the questions; then what their answers mean, which the laws show.
 pub mod Machine
 pub mod Step
 pub mod Runs
 pub mod Ask
+pub mod Place
+pub mod Means
