@@ -24,7 +24,7 @@ pub record AllLong (p : Prog) (b lent : ℕ) : Type 0 where
   pub are : Memories p memories
   pub long : lent < length memories * p .locs
 
--- all memories; what stands for ⊥ is never answered
+-- all memories; an answer that means ⊥ is never given
 abbrev pub MeansAll : Prog → ℕ → ℕ → Answer → Type 0
 MeansAll p b lent (every n ms) = AllListed p b lent n ms
 MeansAll p b lent (reached n r) = ⊥
