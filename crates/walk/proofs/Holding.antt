@@ -19,7 +19,7 @@ use Rattle.walk.specs.declared.note.Status.{Status}
 use Rattle.walk.specs.declared.note.Status.the-variants as status
 
 -- both picks are the same
-either-way : {A : Type 0} (b : Bool) (x : A) → pick b x x ≡ x
+pub either-way : {A : Type 0} (b : Bool) (x : A) → pick b x x ≡ x
 unfolding pick
 either-way true x = refl
 either-way false x = refl

@@ -4,3 +4,5 @@ pub mod Onward
 pub mod Noting
 pub mod Holding
 pub mod Cycling
+pub mod Doors
+pub mod Unique
