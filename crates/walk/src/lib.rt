@@ -1,5 +1,4 @@
 // The questions, by a walk over all runs in dictionary order.
-pub mod ask;
 pub mod codes;
 pub mod cycle;
 pub mod note;

@@ -28,16 +28,16 @@ use Rattle.rows.specs.Rows.{flat, Wide, Rises}
 use Rattle.rows.proofs.Flat.{flat-length}
 use Rattle.state.specs.State.{File, machineOf, noRegisters, Starts}
 use Rattle.state.specs.declared.State.{State}
-use Rattle.walk.specs.Asked.{answerOf, refusedIn, bufferOf, finished, Ends}
+use Rattle.ask.specs.Asked.{answerOf, refusedIn, bufferOf, finished, Ends}
 use Rattle.walk.specs.Found.{Asks, Going, Reached, Holds, noted, want}
 use Rattle.walk.specs.Walk.{Walks, runs}
-use Rattle.walk.specs.declared.ask.Answer.{Answer}
-use Rattle.walk.specs.declared.ask.Answer.the-variants as answer
+use Rattle.ask.specs.declared.Answer.{Answer}
+use Rattle.ask.specs.declared.Answer.the-variants as answer
 use Rattle.walk.specs.declared.note.Asking.{Asking}
 use Rattle.walk.specs.declared.note.Walked.{Walked}
 use Rattle.walk.specs.declared.note.Status.the-variants as status
 use Rattle.walk.proofs.Holding.{either-way}
 use Rattle.walk.proofs.Onward.{square-none, work-start}
 
 -- nothing, and 0 behind it
 blank : (n : ℕ) → padded n 0 (flat []) ≡ replicate n 0

@@ -3,11 +3,11 @@ use mathlib.Core.Path.{_≡_, sym, _∙_}
 use borrow.Fn.Kinds.{Dens, endedOf}
 use contract.Lifetimes.{Lfts}
 use denote.Triple.Clauses.{AtExit}
-use Rattle.walk.specs.declared.ask.Answer.{Answer}
-use Rattle.walk.proofs.ask.ask_all.Kinds as all-kinds
-use Rattle.walk.proofs.ask.ask_all.Reads as all-reads
-use Rattle.walk.proofs.ask.ask_one.Kinds as one-kinds
-use Rattle.walk.proofs.ask.ask_one.Reads as one-reads
+use Rattle.ask.specs.declared.Answer.{Answer}
+use Rattle.ask.proofs.ask_all.Kinds as all-kinds
+use Rattle.ask.proofs.ask_all.Reads as all-reads
+use Rattle.ask.proofs.ask_one.Kinds as one-kinds
+use Rattle.ask.proofs.ask_one.Reads as one-reads
 
 pub ask-all-once :
     (κs : Lfts 1) (a : Dens κs all-kinds.ps) (x y : Answer) (e f : AtExit (endedOf 1 all-kinds.ps all-kinds.r) κs) →

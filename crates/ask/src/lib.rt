@@ -10,12 +10,8 @@ ghost use Rattle.program.specs.Program.Wanted.{all, one};
 ghost use Rattle.program.specs.Legal.{legal};
 ghost use Rattle.px86.specs.Ask.{ask, Tally, events};
 ghost use Rattle.px86.specs.Ask.Tally.{going};
 ghost use Rattle.walk.specs.Found.{Asks, Holds, noted};
-ghost use Rattle.walk.specs.Asked.{answerOf, bufferOf, Ends};
-use crate::cycle::visit;
-use crate::note::Asking;
-use crate::note::Status;
-use crate::note::Walked;
+ghost use Rattle.ask.specs.Asked.{answerOf, bufferOf, Ends};
 use machine::registers::no_registers;
 use names::Budget;
 use program::Program;
@@ -23,6 +19,10 @@ use program::is_legal_asked;
 use px86::Refusal;
 use rows::clear;
 use state::State;
+use walk::cycle::visit;
+use walk::note::Asking;
+use walk::note::Status;
+use walk::note::Walked;
 
 // What a question is answered.
 pub enum Answer {

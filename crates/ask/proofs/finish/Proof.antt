@@ -1,8 +1,8 @@
--- `walk::ask::finish` meets its contract: each status is the end of a tally. Assumes nothing.
-use Rattle.walk.proofs.Doors.{ends-over, ends-full, ends-long, ends-long-run, ends-all, ends-never, ends-reached}
+-- `ask::finish` meets its contract: each status is the end of a tally. Assumes nothing.
+use Rattle.ask.proofs.Doors.{ends-over, ends-full, ends-long, ends-long-run, ends-all, ends-never, ends-reached}
 use borrow.Author.Needs.{needs}
-use Rattle.walk.proofs.ask.finish.Statement.{statement}
-use Rattle.walk.proofs.ask.finish.Tie as tie
+use Rattle.ask.proofs.finish.Statement.{statement}
+use Rattle.ask.proofs.finish.Tie as tie
 
 enum-told : tie.Need-enum-told
 enum-told c = search needs

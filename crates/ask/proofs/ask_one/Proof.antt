@@ -1,13 +1,13 @@
--- `walk::ask::ask_one` meets its contract. Assumes nothing.
+-- `ask::ask_one` meets its contract. Assumes nothing.
 use mathlib.Core.Path.{_≡_, refl, sym, _∙_}
 use lib.ListN.{length, take}
 use native.Mathlib.Omega.{arith}
 use Rattle.program.specs.Program.Wanted.{one}
 use Rattle.program.proofs.Legal.{kept}
-use Rattle.walk.proofs.Doors.{asked-legal, asked-asks, gives-illegal, gives-wrong, gives-one}
+use Rattle.ask.proofs.Doors.{asked-legal, asked-asks, gives-illegal, gives-wrong, gives-one}
 use borrow.Author.Needs.{needs}
-use Rattle.walk.proofs.ask.ask_one.Statement.{statement}
-use Rattle.walk.proofs.ask.ask_one.Tie as tie
+use Rattle.ask.proofs.ask_one.Statement.{statement}
+use Rattle.ask.proofs.ask_one.Tie as tie
 
 is-legal-asked-requires : tie.Need-is-legal-asked-requires
 is-legal-asked-requires c κs = search needs

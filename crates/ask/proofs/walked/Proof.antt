@@ -1,11 +1,11 @@
--- `walk::ask::walked` meets its contract: the visit of the start looks at every run. Assumes nothing.
+-- `ask::walked` meets its contract: the visit of the start looks at every run. Assumes nothing.
 use mathlib.Core.List.{[]}
 use lib.ListN.{length}
 use Rattle.px86.specs.Ask.Tally.{going}
-use Rattle.walk.proofs.Doors.{start-walks, start-room, start-holds, start-events}
+use Rattle.ask.proofs.Doors.{start-walks, start-room, start-holds, start-events}
 use borrow.Author.Needs.{needs}
-use Rattle.walk.proofs.ask.walked.Statement.{statement}
-use Rattle.walk.proofs.ask.walked.Tie as tie
+use Rattle.ask.proofs.walked.Statement.{statement}
+use Rattle.ask.proofs.walked.Tie as tie
 
 clear-requires : tie.Need-clear-requires
 clear-requires c κs = search needs

@@ -1,10 +1,10 @@
--- `walk::ask::ask_all` meets its contract. Assumes nothing.
+-- `ask::ask_all` meets its contract. Assumes nothing.
 use mathlib.Core.Path.{refl, sym, _∙_}
 use Rattle.program.specs.Program.Wanted.{all}
-use Rattle.walk.proofs.Doors.{asked-legal, asked-asks, gives-illegal, gives-all}
+use Rattle.ask.proofs.Doors.{asked-legal, asked-asks, gives-illegal, gives-all}
 use borrow.Author.Needs.{needs}
-use Rattle.walk.proofs.ask.ask_all.Statement.{statement}
-use Rattle.walk.proofs.ask.ask_all.Tie as tie
+use Rattle.ask.proofs.ask_all.Statement.{statement}
+use Rattle.ask.proofs.ask_all.Tie as tie
 
 is-legal-asked-requires : tie.Need-is-legal-asked-requires
 is-legal-asked-requires c κs = search needs

@@ -10,9 +10,9 @@ use Rattle.px86.specs.declared.Refusal.the-variants.{Illegal, WrongWant, Over, 
 use Rattle.px86.specs.Ask.{Answer as Said, Tally, allOf, oneOf, within}
 use Rattle.px86.specs.Ask.Answer.{every, reached, never, none}
 use Rattle.rows.specs.Rows.{flat}
 use Rattle.walk.specs.declared.note.Asking.{Asking}
-use Rattle.walk.specs.declared.ask.Answer.{Answer}
-use Rattle.walk.specs.declared.ask.Answer.the-variants.{All, Reached, Never, Refused}
+use Rattle.ask.specs.declared.Answer.{Answer}
+use Rattle.ask.specs.declared.Answer.the-variants.{All, Reached, Never, Refused}
 
 -- the answer in code: of a list its length, which stands in the buffer
 unfoldable pub answerOf : Said → Answer
