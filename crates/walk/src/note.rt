@@ -1,15 +1,4 @@
 // What one run adds to what the walk has found.
-ghost use mathlib.Core.Path.{_≡_};
-ghost use mathlib.Core.Bool.{true};
-ghost use mathlib.Core.List.{List, _++_};
-ghost use Prim.Native.Nat.{ℕ, _+_, _<_, _≤_};
-ghost use lib.ListN.{length, take, drop, replicate};
-ghost use Rattle.names.specs.Names.{locations, mostRuns};
-ghost use Rattle.program.specs.Program.{Prog};
-ghost use Rattle.px86.specs.Machine.{Machine};
-ghost use Rattle.px86.specs.Runs.Event.{run};
-ghost use Rattle.px86.specs.Ask.{same, insert as listed, Tally};
-ghost use Rattle.walk.specs.Found.{Asks, Going, Reached, Holds, noted, goes, counted, found};
 use rows::insert;
 
 // How far the walk has come: it goes on, or the answer is known.
@@ -26,21 +15,20 @@ pub struct Asking {
     pub all: bool,
     pub wanted: [u8; 6],
     pub locs: u8,
+    pub threads: u8,
     pub budget: u32,
 }
 
 // How many runs were visited; whether the list, or the run, is too long for the lent buffer; and how much of it is used.
 pub struct Walked {
-    pub status: Status,
-    pub count: u32,
-    pub long: bool,
     pub used: usize,
+    pub count: u32,
+    pub status: Status,
+    pub long: bool,
 }
 
 // Whether the first n bytes of two memories are the same.
 fn is_same(a: [u8; 6], b: [u8; 6], n: u8) -> bool
-    requires { ⌜ n ≤ locations ⌝ }
-    ensures { λ r. ⌜ r ≡ same (take n a) (take n b) ⌝ }
 {
     let mut i: u8 = 0;
     while i < n {
@@ -55,8 +43,6 @@ fn is_same(a: [u8; 6], b: [u8; 6], n: u8) -> bool
 
 // Puts the first d bytes of path at the front of out.
 fn copy_front(path: &[u8], d: usize, out: &mut [u8])
-    requires { ⌜ (d ≤ length (now path)) × (d ≤ length (now out)) ⌝ }
-    ensures { λ _. ⌜ now (out .exit) ≡ take d (now (path .entry)) ++ drop d (now (out .entry)) ⌝ }
 {
     let mut i: usize = 0;
     while i < d {
@@ -67,8 +53,6 @@ fn copy_front(path: &[u8], d: usize, out: &mut [u8])
 
 // One more run was visited, and the walk goes on.
 fn counted(w: Walked, long: bool, used: usize) -> Walked
-    requires { ⌜ w .count < mostRuns ⌝ }
-    ensures { λ r. ⌜ r ≡ counted w long used ⌝ }
 {
     Walked {
         status: Status::Going,
@@ -80,8 +64,6 @@ fn counted(w: Walked, long: bool, used: usize) -> Walked
 
 // One more run was visited, and it is the one that was sought.
 fn found(w: Walked, long: bool, used: usize) -> Walked
-    requires { ⌜ w .count < mostRuns ⌝ }
-    ensures { λ r. ⌜ r ≡ found w long used ⌝ }
 {
     Walked {
         status: Status::Found,
@@ -93,10 +75,6 @@ fn found(w: Walked, long: bool, used: usize) -> Walked
 
 // The memory of one more run is put among those at the front of out, as long as they fit.
 fn list_one(q: Asking, memory: [u8; 6], w: Walked, out: &mut [u8]) -> Walked
-    requires { ⌜ Asks q ⌝ }
-    requires { ⌜ w .count < q .budget ⌝ }
-    requires { ⌜ q .all ≡ true ⌝ }
-    ensures { λ r. ⌜ ((ms : List (List ℕ)) → Going q w (now (out .entry)) (w .count) ms → Going q r (now (out .exit)) (w .count + 1) (listed (take (q .locs) memory) ms)) ⌝ }
 {
     let used = w.used;
     let locs = q.locs as usize;
@@ -115,9 +93,6 @@ fn list_one(q: Asking, memory: [u8; 6], w: Walked, out: &mut [u8]) -> Walked
 
 // The run of the first d codes of path is the one that was sought; it is put at the front of out, which is blank, if it fits.
 fn seek_one(w: Walked, path: &[u8], d: usize, out: &mut [u8]) -> Walked
-    requires { ⌜ w .count < mostRuns ⌝ }
-    requires { ⌜ d ≤ length (now path) ⌝ }
-    ensures { λ r. ⌜ (now (out .entry) ≡ replicate (length (now (out .entry))) 0 → Reached r (now (out .exit)) (w .count + 1) (take d (now (path .entry)))) ⌝ }
 {
     if out.len() < d {
         return found(w, true, 0);
@@ -128,7 +103,6 @@ fn seek_one(w: Walked, path: &[u8], d: usize, out: &mut [u8]) -> Walked
 
 // Whether the walk goes on.
 pub fn is_going(s: Status) -> bool
-    ensures { λ r. ⌜ r ≡ goes s ⌝ }
 {
     match s {
         Status::Going => true,
@@ -140,9 +114,6 @@ pub fn is_going(s: Status) -> bool
 
 // Notes the run of the first d codes of path, which leaves the memory.
 pub fn note(q: Asking, memory: [u8; 6], w: Walked, path: &[u8], d: usize, out: &mut [u8]) -> Walked
-    requires { ⌜ Asks q ⌝ }
-    requires { ⌜ d ≤ length (now path) ⌝ }
-    ensures { λ r. ⌜ ((p : Prog) (m : Machine) (a : Tally) → p .locs ≡ q .locs → m .memory ≡ memory → Holds q w (now (out .entry)) a → Holds q r (now (out .exit)) (noted p q a (run (take d (now (path .entry))) m))) ⌝ }
 {
     let status = w.status;
     if is_going(status) {} else {
