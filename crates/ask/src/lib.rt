@@ -22,15 +22,13 @@ pub enum Answer {
 }
 
 // Nothing stands in the lent buffer.
-fn refused(x: Refusal, out: &mut [u8]) -> Answer
-{
+fn refused(x: Refusal, out: &mut [u8]) -> Answer {
     clear(out);
     Answer::Refused(x)
 }
 
 // The answer that the walk has come to.
-fn finish(q: Asking, w: Walked, out: &mut [u8]) -> Answer
-{
+fn finish(q: Asking, w: Walked, out: &mut [u8]) -> Answer {
     let status = w.status;
     match status {
         Status::Over => refused(Refusal::Over(q.budget), out),
@@ -55,8 +53,7 @@ fn finish(q: Asking, w: Walked, out: &mut [u8]) -> Answer
 }
 
 // All runs of the program are walked, from the start.
-fn walked(p: Program, q: Asking, out: &mut [u8]) -> Walked
-{
+fn walked(p: Program, q: Asking, out: &mut [u8]) -> Walked {
     clear(out);
     let mut path = [0u8; 96];
     let s = State::start();
@@ -70,13 +67,27 @@ fn walked(p: Program, q: Asking, out: &mut [u8]) -> Walked
     let memory = s.memory;
     let v = walk::note::note(q, memory, w, &path, 0, out);
     let list = listing::listed(p);
-    walk::cycle::try_from(&list, q, &s.queued, &s.queues, &s.buffered, &s.buffers, &s.places, &s.memory, g, 0, 0, v, &mut path, out)
+    walk::cycle::try_from(
+        &list,
+        q,
+        &s.queued,
+        &s.queues,
+        &s.buffered,
+        &s.buffers,
+        &s.places,
+        &s.memory,
+        g,
+        0,
+        0,
+        v,
+        &mut path,
+        out,
+    )
 }
 
 // The memories that some run leaves: how many runs and memories there are; and in the lent buffer the memories, smallest first, one byte for
 // each location, and 0 behind them. Or refusal 6 (the buffer is unchanged), 11, 8 or 9 (it is all 0).
-pub fn ask_all(p: Program, b: Budget, out: &mut [u8]) -> Answer
-{
+pub fn ask_all(p: Program, b: Budget, out: &mut [u8]) -> Answer {
     if is_legal_asked(p, b) {} else {
         return Answer::Refused(Refusal::Illegal);
     }
@@ -92,8 +103,7 @@ pub fn ask_all(p: Program, b: Budget, out: &mut [u8]) -> Answer
 }
 
 // The bytes of a memory, and 0 behind them.
-fn six(want: &[u8]) -> [u8; 6]
-{
+fn six(want: &[u8]) -> [u8; 6] {
     let mut six = [0u8; 6];
     let mut i: usize = 0;
     while i < want.len() {
@@ -106,8 +116,7 @@ fn six(want: &[u8]) -> [u8; 6]
 // Whether one of the first runs, as many as the budget, leaves the wanted memory: the place and length of the first that does, and in the lent
 // buffer its codes and 0 behind them; or that no run does, with their number (the buffer is all 0). Or refusal 6 or 7 (the buffer is
 // unchanged), 11, 8 or 9 (it is all 0).
-pub fn ask_one(p: Program, b: Budget, want: &[u8], out: &mut [u8]) -> Answer
-{
+pub fn ask_one(p: Program, b: Budget, want: &[u8], out: &mut [u8]) -> Answer {
     if is_legal_asked(p, b) {} else {
         return Answer::Refused(Refusal::Illegal);
     }

@@ -1,4 +1,14 @@
 // A program as a listing: one number for each instruction, which the walk can lend where it would have to copy a program.
+ghost use mathlib.Core.Path.{_≡_};
+ghost use mathlib.Core.Bool.{true};
+ghost use mathlib.Core.Option.{some};
+ghost use Prim.Native.Nat.{_<_, _≤_};
+ghost use Rattle.names.specs.Names.{threads, locations, registers};
+ghost use Rattle.program.specs.Program.{progOf, mostOps, fetchedOf};
+ghost use Rattle.program.specs.Legal.{legal};
+ghost use Rattle.program.specs.Kept.{threadAt};
+ghost use lib.ListN.{getElem?};
+ghost use Rattle.listing.specs.Listing.{numberIs, locIn, regIn, lowIn, highIn, opIn, Named, at as numberAt, progIn, Lists, Sound};
 use names::Loc;
 use names::Reg;
 use names::Thread;
@@ -12,11 +22,15 @@ pub const EACH: usize = 9;
 
 // The number of an instruction: its kind, from 1 on, its location and register, and two bytes.
 fn number(kind: u32, l: Loc, r: Reg, b: u8, a: u8) -> u32
+    requires { ⌜ (kind ≤ 10) × (l .0 < locations) × (r .0 < registers) ⌝ }
+    ensures { λ x. ⌜ x ≡ numberIs kind (l .0) (r .0) b a ⌝ }
 {
     kind * 16777216 + ((l.0 as u32) * 4 + (r.0 as u32)) * 65536 + (b as u32) * 256 + (a as u32)
 }
 
 fn number_of(o: Op) -> u32
+    requires { ⌜ Named o ⌝ }
+    ensures { λ x. ⌜ opIn x ≡ some o ⌝ }
 {
     match o {
         Op::St(l, v) => number(1, l, Reg(0), 0, v),
@@ -33,27 +47,32 @@ fn number_of(o: Op) -> u32
 }
 
 fn loc_of(n: u32) -> Loc
+    ensures { λ r. ⌜ r ≡ locIn n ⌝ }
 {
     Loc((n / 262144 % 64) as u8)
 }
 
 fn reg_of(n: u32) -> Reg
+    ensures { λ r. ⌜ r ≡ regIn n ⌝ }
 {
     Reg((n / 65536 % 4) as u8)
 }
 
 fn low(n: u32) -> u8
+    ensures { λ r. ⌜ r ≡ lowIn n ⌝ }
 {
     (n % 256) as u8
 }
 
 fn high(n: u32) -> u8
+    ensures { λ r. ⌜ r ≡ highIn n ⌝ }
 {
     (n / 256 % 256) as u8
 }
 
 // The instruction of a number; past the last where it is of no kind.
 pub fn op_of(n: u32) -> Fetched
+    ensures { λ r. ⌜ r ≡ fetchedOf (opIn n) ⌝ }
 {
     let kind = n / 16777216;
     match kind {
@@ -72,6 +91,8 @@ pub fn op_of(n: u32) -> Fetched
 }
 
 fn number_at(p: Program, t: u8, k: u8) -> u32
+    requires { ⌜ legal p ≡ true ⌝ }
+    ensures { λ r. ⌜ opIn r ≡ getElem? (threadAt p t) k ⌝ }
 {
     let f = op_at(p, Thread(t), k);
     match f {
@@ -82,6 +103,10 @@ fn number_at(p: Program, t: u8, k: u8) -> u32
 
 // The listing of a program.
 pub fn listed(p: Program) -> [u32; 36]
+    requires { ⌜ legal p ≡ true ⌝ }
+    ensures { λ r. ⌜ Lists r (progOf p) ⌝ }
+    ensures { λ r. ⌜ Sound r ⌝ }
+    ensures { λ r. ⌜ progIn r (p .threads) (p .locs) ≡ progOf p ⌝ }
 {
     let mut list = [0u32; 36];
     let mut t: u8 = 0;
@@ -98,6 +123,8 @@ pub fn listed(p: Program) -> [u32; 36]
 
 // The instruction at place k of thread t.
 pub fn fetch(list: &[u32; 36], t: Thread, k: u8) -> Fetched
+    requires { ⌜ (t .0 < threads) × (k ≤ mostOps) ⌝ }
+    ensures { λ r. ⌜ r ≡ fetchedOf (opIn (numberAt (now (list .entry)) (t .0) k)) ⌝ }
 {
     let at = t.0 as usize;
     op_of(list[at * EACH + (k as usize)])

@@ -25,27 +25,31 @@ use verdict::PERSIST;
 use verdict::reads::read;
 
 // The sum of two bytes modulo 256.
-fn sum(a: u8, b: u8) -> u8
-{
+fn sum(a: u8, b: u8) -> u8 {
     ((a as u16 + b as u16) % 256) as u8
 }
 
 // How many instructions a bz passes over.
-fn skip(v: u8, k: u8) -> u8
-{
+fn skip(v: u8, k: u8) -> u8 {
     if v == 0 { k } else { 0 }
 }
 
 // The entry e joins the buffer of t.
-fn join(buffered: &mut [u16; 32], buffers: &mut [u8; 4], t: Thread, e: Entry) -> Load
-{
+fn join(buffered: &mut [u16; 32], buffers: &mut [u8; 4], t: Thread, e: Entry) -> Load {
     buffer_push(buffered, buffers, t, slot_of(e));
     Load::Nothing
 }
 
 // A locked write of `new` to l by t, whose register r gets `old`.
-fn lock(queued: &mut [u16; 192], queues: &mut [u8; 6], t: Thread, r: Reg, l: Loc, old: u8, new: u8) -> Load
-{
+fn lock(
+    queued: &mut [u16; 192],
+    queues: &mut [u8; 6],
+    t: Thread,
+    r: Reg,
+    l: Loc,
+    old: u8,
+    new: u8,
+) -> Load {
     queue_push(queued, queues, l, write_slot(l, new));
     Load::Into(t, r, old)
 }
@@ -61,8 +65,7 @@ fn do_op(
     memory: &[u8; 6],
     t: Thread,
     o: Op,
-) -> Load
-{
+) -> Load {
     match o {
         Op::St(l, v) => join(buffered, buffers, t, Entry::Store(l, v)),
         Op::Sr(l, r) => {
@@ -109,15 +112,22 @@ fn step_thread(
     places: &mut [u8; 4],
     memory: &[u8; 6],
     t: Thread,
-) -> Load
-{
+) -> Load {
     let at = t.0 as usize;
     let f = fetch(list, t, places[at]);
     match f {
         Fetched::Found(o) => {
             advance(places, t, 1);
             do_op(
-                regs, queued, queues, buffered, buffers, places, memory, t, o,
+                regs,
+                queued,
+                queues,
+                buffered,
+                buffers,
+                places,
+                memory,
+                t,
+                o,
             )
         }
         Fetched::Past => Load::Nothing,
@@ -125,8 +135,7 @@ fn step_thread(
 }
 
 // The entry e, which left the buffer of t, goes where it goes, which is allowed.
-fn go(queued: &mut [u16; 192], queues: &mut [u8; 6], t: Thread, e: Entry)
-{
+fn go(queued: &mut [u16; 192], queues: &mut [u8; 6], t: Thread, e: Entry) {
     match e {
         Entry::Fence => {}
         Entry::Store(l, v) => {
@@ -147,8 +156,7 @@ fn leave(
     buffers: &mut [u8; 4],
     t: Thread,
     i: u8,
-)
-{
+) {
     let at = t.0 as usize;
     let e = entry_of(buffered[at * State::BUFFER_ROOM + (i as usize)]);
     buffer_remove(buffered, buffers, t, i);
@@ -156,8 +164,7 @@ fn leave(
 }
 
 // Codes 64+l: the oldest entry of the queue of l goes, which is allowed.
-fn persist(queued: &mut [u16; 192], queues: &mut [u8; 6], memory: &mut [u8; 6], l: Loc)
-{
+fn persist(queued: &mut [u16; 192], queues: &mut [u8; 6], memory: &mut [u8; 6], l: Loc) {
     let at = l.0 as usize;
     let e = queued[at * State::QUEUE_ROOM];
     queue_pop(queued, queues, l);
@@ -177,15 +184,29 @@ pub fn step(
     places: &mut [u8; 4],
     memory: &mut [u8; 6],
     c: u8,
-) -> Load
-{
+) -> Load {
     if c < Thread::LIMIT {
         return step_thread(
-            list, regs, queued, queues, buffered, buffers, places, memory, Thread(c),
+            list,
+            regs,
+            queued,
+            queues,
+            buffered,
+            buffers,
+            places,
+            memory,
+            Thread(c),
         );
     }
     if c < LEAVE_END {
-        leave(queued, queues, buffered, buffers, Thread((c - LEAVE) / 8), (c - LEAVE) % 8);
+        leave(
+            queued,
+            queues,
+            buffered,
+            buffers,
+            Thread((c - LEAVE) / 8),
+            (c - LEAVE) % 8,
+        );
         return Load::Nothing;
     }
     persist(queued, queues, memory, Loc(c - PERSIST));

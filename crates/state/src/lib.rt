@@ -1,4 +1,14 @@
 // The state of the machine: store buffers and persist queues in flat tables, places and memory. The registers stand beside it.
+ghost use mathlib.Core.Path.{_≡_};
+ghost use mathlib.Core.List.{_++_, _∷_, []};
+ghost use Prim.Native.Nat.{_+_, _<_, _≤_};
+ghost use lib.ListN.{length, getD, set};
+ghost use Rattle.names.specs.Names.{threads, locations};
+ghost use Rattle.tables.specs.Tables.{without, closed};
+ghost use Rattle.program.specs.Program.{mostOps};
+ghost use Rattle.px86.specs.Machine.Mark.{write, opt};
+ghost use Rattle.px86.specs.Step.{bufferRoom, queueRoom};
+ghost use Rattle.state.specs.State.{markOf, entryIn, entryOf, EntryIn, fenceSlot, queuesOf, queueOf, buffersOf, bufferOf, Queues, Buffers, QueuesAre, BuffersAre, Starts};
 use names::Loc;
 use names::Thread;
 
@@ -37,6 +47,7 @@ impl State {
 
     // Before the first step: nothing is buffered or queued, and all places and memory are 0.
     pub fn start() -> State
+        ensures { λ r. ⌜ Starts r ⌝ }
     {
         State {
             queued: [0; 192],
@@ -51,17 +62,24 @@ impl State {
 
 // The slot of a write of v to l, in a queue or a buffer, and of an fo of t in a queue.
 pub fn write_slot(l: Loc, v: u8) -> u16
+    requires { ⌜ l .0 < locations ⌝ }
+    ensures { λ r. ⌜ markOf r ≡ write (l .0) v ⌝ }
 {
     (l.0 as u16) * 256 + (v as u16)
 }
 
 pub fn fo_slot(t: Thread) -> u16
+    requires { ⌜ t .0 < threads ⌝ }
+    ensures { λ r. ⌜ markOf r ≡ opt (t .0) ⌝ }
 {
     State::FIRST_FO + (t.0 as u16)
 }
 
 // The buffer's slot of an entry, and the entry of a slot.
 pub fn slot_of(e: Entry) -> u16
+    requires { ⌜ EntryIn e ⌝ }
+    ensures { λ r. ⌜ entryIn r ≡ entryOf e ⌝ }
+    ensures { λ r. ⌜ r ≤ fenceSlot ⌝ }
 {
     match e {
         Entry::Fence => State::FENCE,
@@ -72,6 +90,8 @@ pub fn slot_of(e: Entry) -> u16
 }
 
 pub fn entry_of(x: u16) -> Entry
+    ensures { λ r. ⌜ entryOf r ≡ entryIn x ⌝ }
+    ensures { λ r. ⌜ EntryIn r ⌝ }
 {
     if x < State::FIRST_FO {
         return Entry::Store(Loc((x / 256) as u8), (x % 256) as u8);
@@ -87,6 +107,9 @@ pub fn entry_of(x: u16) -> Entry
 
 // The slot e joins the end of the queue of l.
 pub fn queue_push(queued: &mut [u16; 192], queues: &mut [u8; 6], l: Loc, e: u16)
+    requires { ⌜ Queues (now queued) (now queues) ⌝ }
+    requires { ⌜ (l .0 < locations) × (length (queueOf (now queued) (now queues) (l .0)) < queueRoom) ⌝ }
+    ensures { λ _. ⌜ QueuesAre (now (queued .exit)) (now (queues .exit)) (set (queuesOf (now (queued .entry)) (now (queues .entry))) (l .0) (queueOf (now (queued .entry)) (now (queues .entry)) (l .0) ++ markOf e ∷ [])) ⌝ }
 {
     let at = l.0 as usize;
     let n = queues[at];
@@ -96,6 +119,8 @@ pub fn queue_push(queued: &mut [u16; 192], queues: &mut [u8; 6], l: Loc, e: u16)
 
 // The `moves` entries behind the slot `from` move one slot down, and the last of their slots is blank then.
 fn close_queued(queued: &mut [u16; 192], from: usize, moves: usize)
+    requires { ⌜ from + moves < 192 ⌝ }
+    ensures { λ _. ⌜ now (queued .exit) ≡ closed 0 (now (queued .entry)) from moves ⌝ }
 {
     let mut a = from;
     let mut left = moves;
@@ -109,6 +134,9 @@ fn close_queued(queued: &mut [u16; 192], from: usize, moves: usize)
 
 // The oldest entry of the queue of l goes.
 pub fn queue_pop(queued: &mut [u16; 192], queues: &mut [u8; 6], l: Loc)
+    requires { ⌜ Queues (now queued) (now queues) ⌝ }
+    requires { ⌜ (l .0 < locations) × (0 < length (queueOf (now queued) (now queues) (l .0))) ⌝ }
+    ensures { λ _. ⌜ QueuesAre (now (queued .exit)) (now (queues .exit)) (set (queuesOf (now (queued .entry)) (now (queues .entry))) (l .0) (without 0 (queueOf (now (queued .entry)) (now (queues .entry)) (l .0)))) ⌝ }
 {
     let at = l.0 as usize;
     let n = queues[at];
@@ -118,6 +146,9 @@ pub fn queue_pop(queued: &mut [u16; 192], queues: &mut [u8; 6], l: Loc)
 
 // The slot x joins the end of the buffer of t.
 pub fn buffer_push(buffered: &mut [u16; 32], buffers: &mut [u8; 4], t: Thread, x: u16)
+    requires { ⌜ Buffers (now buffered) (now buffers) ⌝ }
+    requires { ⌜ (t .0 < threads) × (length (bufferOf (now buffered) (now buffers) (t .0)) < bufferRoom) × (x ≤ fenceSlot) ⌝ }
+    ensures { λ _. ⌜ BuffersAre (now (buffered .exit)) (now (buffers .exit)) (set (buffersOf (now (buffered .entry)) (now (buffers .entry))) (t .0) (bufferOf (now (buffered .entry)) (now (buffers .entry)) (t .0) ++ entryIn x ∷ [])) ⌝ }
 {
     let at = t.0 as usize;
     let n = buffers[at];
@@ -128,6 +159,8 @@ pub fn buffer_push(buffered: &mut [u16; 32], buffers: &mut [u8; 4], t: Thread, x
 // A second table is built beside xs: the same but that the `moves` entries behind the slot `from` stand one slot lower, and the last of
 // their slots is blank.
 fn built_without(xs: [u16; 32], from: usize, moves: usize) -> [u16; 32]
+    requires { ⌜ from + moves < 32 ⌝ }
+    ensures { λ r. ⌜ r ≡ closed 0 xs from moves ⌝ }
 {
     let mut ys = xs;
     let mut a = from;
@@ -143,6 +176,9 @@ fn built_without(xs: [u16; 32], from: usize, moves: usize) -> [u16; 32]
 
 // The entry at place i leaves the buffer of t.
 pub fn buffer_remove(buffered: &mut [u16; 32], buffers: &mut [u8; 4], t: Thread, i: u8)
+    requires { ⌜ Buffers (now buffered) (now buffers) ⌝ }
+    requires { ⌜ (t .0 < threads) × (i < length (bufferOf (now buffered) (now buffers) (t .0))) ⌝ }
+    ensures { λ _. ⌜ BuffersAre (now (buffered .exit)) (now (buffers .exit)) (set (buffersOf (now (buffered .entry)) (now (buffers .entry))) (t .0) (without i (bufferOf (now (buffered .entry)) (now (buffers .entry)) (t .0)))) ⌝ }
 {
     let at = t.0 as usize;
     let n = buffers[at];
@@ -158,6 +194,8 @@ pub fn buffer_remove(buffered: &mut [u16; 32], buffers: &mut [u8; 4], t: Thread,
 
 // The place of t moves on by k.
 pub fn advance(places: &mut [u8; 4], t: Thread, k: u8)
+    requires { ⌜ (t .0 < threads) × (getD (now places) (t .0) 0 + k ≤ mostOps) ⌝ }
+    ensures { λ _. ⌜ now (places .exit) ≡ set (now (places .entry)) (t .0) (getD (now (places .entry)) (t .0) 0 + k) ⌝ }
 {
     let at = t.0 as usize;
     let p = places[at];
@@ -166,6 +204,8 @@ pub fn advance(places: &mut [u8; 4], t: Thread, k: u8)
 
 // The memory at l is v now.
 pub fn set_memory(memory: &mut [u8; 6], l: Loc, v: u8)
+    requires { ⌜ l .0 < locations ⌝ }
+    ensures { λ _. ⌜ now (memory .exit) ≡ set (now (memory .entry)) (l .0) v ⌝ }
 {
     let at = l.0 as usize;
     memory[at] = v;

@@ -30,8 +30,7 @@ pub enum Verdict {
 }
 
 // Whether one more entry fits into the queue of l.
-fn queue_room(queues: &[u8; 6], l: Loc) -> Verdict
-{
+fn queue_room(queues: &[u8; 6], l: Loc) -> Verdict {
     let at = l.0 as usize;
     if (queues[at] as usize) < State::QUEUE_ROOM {
         Verdict::Allowed
@@ -41,8 +40,7 @@ fn queue_room(queues: &[u8; 6], l: Loc) -> Verdict
 }
 
 // Whether one more entry fits into the buffer of t.
-fn buffer_room(buffers: &[u8; 4], t: Thread) -> Verdict
-{
+fn buffer_room(buffers: &[u8; 4], t: Thread) -> Verdict {
     let at = t.0 as usize;
     if (buffers[at] as usize) < State::BUFFER_ROOM {
         Verdict::Allowed
@@ -52,14 +50,18 @@ fn buffer_room(buffers: &[u8; 4], t: Thread) -> Verdict
 }
 
 // A step that is allowed where a test holds.
-fn allowed_if(b: bool) -> Verdict
-{
+fn allowed_if(b: bool) -> Verdict {
     if b { Verdict::Allowed } else { Verdict::Barred }
 }
 
 // Whether t may do a locked write to l.
-fn may_lock<'a>(queued: &'a [u16; 192], queues: &'a [u8; 6], buffers: &'a [u8; 4], t: Thread, l: Loc) -> Verdict
-{
+fn may_lock<'a>(
+    queued: &'a [u16; 192],
+    queues: &'a [u8; 6],
+    buffers: &'a [u8; 4],
+    t: Thread,
+    l: Loc,
+) -> Verdict {
     if is_fenced(queued, queues, buffers, t) {
         queue_room(queues, l)
     } else {
@@ -76,8 +78,7 @@ fn may_do<'a>(
     memory: &'a [u8; 6],
     t: Thread,
     o: Op,
-) -> Verdict
-{
+) -> Verdict {
     match o {
         Op::St(_, _) => buffer_room(buffers, t),
         Op::Sr(_, _) => buffer_room(buffers, t),
@@ -97,8 +98,7 @@ fn may_do<'a>(
 }
 
 // Whether the entry e, which is the oldest of t's buffer or may overtake those that are older, may go.
-fn may_go<'a>(queued: &'a [u16; 192], queues: &'a [u8; 6], t: Thread, e: Entry) -> Verdict
-{
+fn may_go<'a>(queued: &'a [u16; 192], queues: &'a [u8; 6], t: Thread, e: Entry) -> Verdict {
     match e {
         Entry::Fence => allowed_if(all_clear(queued, queues, t)),
         Entry::Store(l, _) => queue_room(queues, l),
@@ -111,8 +111,7 @@ fn may_go<'a>(queued: &'a [u16; 192], queues: &'a [u8; 6], t: Thread, e: Entry) 
 }
 
 // Whether the entry e may overtake all that is older than its place i in t's buffer.
-fn may_pass(buffered: &[u16; 32], t: Thread, i: u8, e: Entry) -> bool
-{
+fn may_pass(buffered: &[u16; 32], t: Thread, i: u8, e: Entry) -> bool {
     match e {
         Entry::Fence => i == 0,
         Entry::Store(_, _) => i == 0,
@@ -129,8 +128,7 @@ pub fn may_leave<'a>(
     buffers: &'a [u8; 4],
     t: Thread,
     i: u8,
-) -> Verdict
-{
+) -> Verdict {
     let at = t.0 as usize;
     if buffers[at] <= i {
         return Verdict::Barred;
@@ -144,8 +142,7 @@ pub fn may_leave<'a>(
 }
 
 // Codes 64+l.
-pub fn may_persist(queues: &[u8; 6], l: Loc) -> Verdict
-{
+pub fn may_persist(queues: &[u8; 6], l: Loc) -> Verdict {
     let at = l.0 as usize;
     if queues[at] == 0 {
         Verdict::Barred
@@ -164,8 +161,7 @@ pub fn may_step<'a>(
     places: &'a [u8; 4],
     memory: &'a [u8; 6],
     t: Thread,
-) -> Verdict
-{
+) -> Verdict {
     let at = t.0 as usize;
     let f = fetch(list, t, places[at]);
     match f {
@@ -184,8 +180,7 @@ pub fn judge<'a>(
     places: &'a [u8; 4],
     memory: &'a [u8; 6],
     c: u8,
-) -> Verdict
-{
+) -> Verdict {
     if c < Thread::LIMIT {
         return may_step(
             list,

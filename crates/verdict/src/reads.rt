@@ -6,8 +6,7 @@ use state::State;
 use state::entry_of;
 
 // What l holds after the queue's slot e, where it was v before: a write to l is taken up, and nothing else.
-fn after_slot(l: Loc, v: u8, e: u16) -> u8
-{
+fn after_slot(l: Loc, v: u8, e: u16) -> u8 {
     if State::FIRST_FO <= e {
         return v;
     }
@@ -19,8 +18,7 @@ fn after_slot(l: Loc, v: u8, e: u16) -> u8
 }
 
 // The same of the buffer's slot x: a store to l is taken up, and nothing else.
-fn after_entry(l: Loc, v: u8, x: u16) -> u8
-{
+fn after_entry(l: Loc, v: u8, x: u16) -> u8 {
     let e = entry_of(x);
     match e {
         Entry::Fence => v,
@@ -31,8 +29,7 @@ fn after_entry(l: Loc, v: u8, x: u16) -> u8
 }
 
 // The newest write to l in its queue, or `old` where there is none.
-fn newest_queued<'a>(queued: &'a [u16; 192], queues: &'a [u8; 6], l: Loc, old: u8) -> u8
-{
+fn newest_queued<'a>(queued: &'a [u16; 192], queues: &'a [u8; 6], l: Loc, old: u8) -> u8 {
     let at = l.0 as usize;
     let n = queues[at] as usize;
     let mut v = old;
@@ -46,8 +43,13 @@ fn newest_queued<'a>(queued: &'a [u16; 192], queues: &'a [u8; 6], l: Loc, old: u
 }
 
 // The newest store to l in the buffer of t, or `old` where there is none.
-fn newest_buffered<'a>(buffered: &'a [u16; 32], buffers: &'a [u8; 4], t: Thread, l: Loc, old: u8) -> u8
-{
+fn newest_buffered<'a>(
+    buffered: &'a [u16; 32],
+    buffers: &'a [u8; 4],
+    t: Thread,
+    l: Loc,
+    old: u8,
+) -> u8 {
     let at = t.0 as usize;
     let n = buffers[at] as usize;
     let mut v = old;
@@ -69,8 +71,7 @@ pub fn read<'a>(
     memory: &'a [u8; 6],
     t: Thread,
     l: Loc,
-) -> u8
-{
+) -> u8 {
     let at = l.0 as usize;
     let old = memory[at];
     let written = newest_queued(queued, queues, l, old);
@@ -78,8 +79,7 @@ pub fn read<'a>(
 }
 
 // Whether the queue of l holds no fo of t.
-fn queue_clear<'a>(queued: &'a [u16; 192], queues: &'a [u8; 6], t: Thread, l: Loc) -> bool
-{
+fn queue_clear<'a>(queued: &'a [u16; 192], queues: &'a [u8; 6], t: Thread, l: Loc) -> bool {
     let at = l.0 as usize;
     let n = queues[at] as usize;
     let fo = State::FIRST_FO + (t.0 as u16);
@@ -95,8 +95,7 @@ fn queue_clear<'a>(queued: &'a [u16; 192], queues: &'a [u8; 6], t: Thread, l: Lo
 }
 
 // Whether no queue holds one.
-pub fn all_clear<'a>(queued: &'a [u16; 192], queues: &'a [u8; 6], t: Thread) -> bool
-{
+pub fn all_clear<'a>(queued: &'a [u16; 192], queues: &'a [u8; 6], t: Thread) -> bool {
     let mut l: u8 = 0;
     while l < Loc::LIMIT {
         if !queue_clear(queued, queues, t, Loc(l)) {
@@ -108,8 +107,12 @@ pub fn all_clear<'a>(queued: &'a [u16; 192], queues: &'a [u8; 6], t: Thread) -> 
 }
 
 // Whether mf or a locked operation of t may be done: its buffer is empty, and no queue holds an fo of it.
-pub fn is_fenced<'a>(queued: &'a [u16; 192], queues: &'a [u8; 6], buffers: &'a [u8; 4], t: Thread) -> bool
-{
+pub fn is_fenced<'a>(
+    queued: &'a [u16; 192],
+    queues: &'a [u8; 6],
+    buffers: &'a [u8; 4],
+    t: Thread,
+) -> bool {
     let at = t.0 as usize;
     if buffers[at] == 0 {
         all_clear(queued, queues, t)
@@ -119,8 +122,7 @@ pub fn is_fenced<'a>(queued: &'a [u16; 192], queues: &'a [u8; 6], buffers: &'a [
 }
 
 // Whether no fo of l may overtake the buffer's slot x.
-fn stops(l: Loc, x: u16) -> bool
-{
+fn stops(l: Loc, x: u16) -> bool {
     let e = entry_of(x);
     match e {
         Entry::Fence => true,
@@ -131,8 +133,7 @@ fn stops(l: Loc, x: u16) -> bool
 }
 
 // Whether an fo of l may overtake all that is older than place i of the buffer of t.
-pub fn overtakes(buffered: &[u16; 32], t: Thread, l: Loc, i: u8) -> bool
-{
+pub fn overtakes(buffered: &[u16; 32], t: Thread, l: Loc, i: u8) -> bool {
     let at = t.0 as usize;
     let n = i as usize;
     let mut j: usize = 0;

@@ -15,14 +15,12 @@ pub struct Found {
     pub verdict: Verdict,
 }
 
-fn found(code: u8, verdict: Verdict) -> Found
-{
+fn found(code: u8, verdict: Verdict) -> Found {
     Found { code, verdict }
 }
 
 // Whether a verdict is that the code is barred.
-fn is_barred(v: Verdict) -> bool
-{
+fn is_barred(v: Verdict) -> bool {
     match v {
         Verdict::Allowed => false,
         Verdict::Barred => true,
@@ -31,8 +29,7 @@ fn is_barred(v: Verdict) -> bool
 }
 
 // The first queue from code c upward that is not empty.
-fn next_persist(queues: &[u8; 6], c: u8) -> Found
-{
+fn next_persist(queues: &[u8; 6], c: u8) -> Found {
     let mut k = c;
     while k < PERSIST_END {
         let at = (k - PERSIST) as usize;
@@ -51,8 +48,7 @@ fn next_leave<'a>(
     buffered: &'a [u16; 32],
     buffers: &'a [u8; 4],
     c: u8,
-) -> Found
-{
+) -> Found {
     let mut k = c;
     while k < LEAVE_END {
         let t = (k - LEAVE) / 8;
@@ -84,8 +80,7 @@ pub fn next_from<'a>(
     places: &'a [u8; 4],
     memory: &'a [u8; 6],
     c: u8,
-) -> Found
-{
+) -> Found {
     let mut k = c;
     while k < threads {
         let v = may_step(

@@ -13,8 +13,7 @@ use state::State;
 use verdict::Verdict;
 
 // An allowed step lacks room: the answer is known.
-fn filled(w: Walked) -> Walked
-{
+fn filled(w: Walked) -> Walked {
     Walked {
         status: Status::Full,
         count: w.count,
@@ -39,8 +38,7 @@ pub fn visit<'a>(
     w: Walked,
     path: &mut [u8],
     out: &mut [u8],
-) -> Walked
-{
+) -> Walked {
     let mut queued = *queued;
     let mut queues = *queues;
     let mut buffered = *buffered;
@@ -95,8 +93,7 @@ pub fn try_from<'a>(
     w: Walked,
     path: &mut [u8],
     out: &mut [u8],
-) -> Walked
-{
+) -> Walked {
     let mut v = w;
     let mut k = c;
     loop {

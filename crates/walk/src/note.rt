@@ -28,8 +28,7 @@ pub struct Walked {
 }
 
 // Whether the first n bytes of two memories are the same.
-fn is_same(a: [u8; 6], b: [u8; 6], n: u8) -> bool
-{
+fn is_same(a: [u8; 6], b: [u8; 6], n: u8) -> bool {
     let mut i: u8 = 0;
     while i < n {
         let j = i as usize;
@@ -42,8 +41,7 @@ fn is_same(a: [u8; 6], b: [u8; 6], n: u8) -> bool
 }
 
 // Puts the first d bytes of path at the front of out.
-fn copy_front(path: &[u8], d: usize, out: &mut [u8])
-{
+fn copy_front(path: &[u8], d: usize, out: &mut [u8]) {
     let mut i: usize = 0;
     while i < d {
         out[i] = path[i];
@@ -52,8 +50,7 @@ fn copy_front(path: &[u8], d: usize, out: &mut [u8])
 }
 
 // One more run was visited, and the walk goes on.
-fn counted(w: Walked, long: bool, used: usize) -> Walked
-{
+fn counted(w: Walked, long: bool, used: usize) -> Walked {
     Walked {
         status: Status::Going,
         count: w.count + 1,
@@ -63,8 +60,7 @@ fn counted(w: Walked, long: bool, used: usize) -> Walked
 }
 
 // One more run was visited, and it is the one that was sought.
-fn found(w: Walked, long: bool, used: usize) -> Walked
-{
+fn found(w: Walked, long: bool, used: usize) -> Walked {
     Walked {
         status: Status::Found,
         count: w.count + 1,
@@ -74,8 +70,7 @@ fn found(w: Walked, long: bool, used: usize) -> Walked
 }
 
 // The memory of one more run is put among those at the front of out, as long as they fit.
-fn list_one(q: Asking, memory: [u8; 6], w: Walked, out: &mut [u8]) -> Walked
-{
+fn list_one(q: Asking, memory: [u8; 6], w: Walked, out: &mut [u8]) -> Walked {
     let used = w.used;
     let locs = q.locs as usize;
     if w.long {
@@ -92,8 +87,7 @@ fn list_one(q: Asking, memory: [u8; 6], w: Walked, out: &mut [u8]) -> Walked
 }
 
 // The run of the first d codes of path is the one that was sought; it is put at the front of out, which is blank, if it fits.
-fn seek_one(w: Walked, path: &[u8], d: usize, out: &mut [u8]) -> Walked
-{
+fn seek_one(w: Walked, path: &[u8], d: usize, out: &mut [u8]) -> Walked {
     if out.len() < d {
         return found(w, true, 0);
     }
@@ -102,8 +96,7 @@ fn seek_one(w: Walked, path: &[u8], d: usize, out: &mut [u8]) -> Walked
 }
 
 // Whether the walk goes on.
-pub fn is_going(s: Status) -> bool
-{
+pub fn is_going(s: Status) -> bool {
     match s {
         Status::Going => true,
         Status::Over => false,
@@ -113,8 +106,14 @@ pub fn is_going(s: Status) -> bool
 }
 
 // Notes the run of the first d codes of path, which leaves the memory.
-pub fn note(q: Asking, memory: [u8; 6], w: Walked, path: &[u8], d: usize, out: &mut [u8]) -> Walked
-{
+pub fn note(
+    q: Asking,
+    memory: [u8; 6],
+    w: Walked,
+    path: &[u8],
+    d: usize,
+    out: &mut [u8],
+) -> Walked {
     let status = w.status;
     if is_going(status) {} else {
         return w;
