@@ -1,4 +1,20 @@
 // The step that an allowed code takes, in the place of the state.
+ghost use mathlib.Core.Path.{_≡_};
+ghost use mathlib.Core.List.{List, [], _∷_, _++_};
+ghost use Prim.Native.Nat.{ℕ, _+_, _-_, _%_, _<_};
+ghost use lib.Dec.{eqb};
+ghost use lib.ListN.{length, getD, set, getElem?};
+ghost use Rattle.names.specs.Names.{threads, locations, registers, pick};
+ghost use Rattle.program.specs.Program.{Prog, mostOps};
+ghost use Rattle.program.specs.Kept.{Fits};
+ghost use Rattle.px86.specs.Machine.{Entry as PxEntry, wrote};
+ghost use Rattle.px86.specs.Machine.Mark.{write};
+ghost use Rattle.px86.specs.Step.{bufferRoom, queueRoom, join as joins, does, next, goes, leaves, persists, step as stepOf};
+ghost use Rattle.px86.specs.Step.Stepped.{to};
+ghost use Rattle.listing.specs.Listing.{Lists, Sound};
+ghost use Rattle.state.specs.State.{entryOf, queuesOf, queueOf, buffersOf, bufferOf, Queues, Buffers, QueuesAre, BuffersAre, EntryIn, File, machineWith, machineOf, held, Valid};
+ghost use Rattle.verdict.specs.Verdict.{verdictOf, instruction};
+ghost use Rattle.machine.specs.Taken.{Takes};
 use crate::registers::Load;
 use crate::registers::register_of;
 use listing::fetch;
@@ -22,20 +38,30 @@ use state::write_slot;
 use verdict::LEAVE;
 use verdict::LEAVE_END;
 use verdict::PERSIST;
+use verdict::Verdict;
 use verdict::reads::read;
 
 // The sum of two bytes modulo 256.
-fn sum(a: u8, b: u8) -> u8 {
+fn sum(a: u8, b: u8) -> u8
+    ensures { λ r. ⌜ r ≡ (a + b) % 256 ⌝ }
+{
     ((a as u16 + b as u16) % 256) as u8
 }
 
 // How many instructions a bz passes over.
-fn skip(v: u8, k: u8) -> u8 {
+fn skip(v: u8, k: u8) -> u8
+    ensures { λ r. ⌜ r ≡ pick (eqb v 0) k 0 ⌝ }
+{
     if v == 0 { k } else { 0 }
 }
 
 // The entry e joins the buffer of t.
-fn join(buffered: &mut [u16; 32], buffers: &mut [u8; 4], t: Thread, e: Entry) -> Load {
+fn join(buffered: &mut [u16; 32], buffers: &mut [u8; 4], t: Thread, e: Entry) -> Load
+    requires { ⌜ Buffers (now buffered) (now buffers) ⌝ }
+    requires { ⌜ (t .0 < threads) × (length (bufferOf (now buffered) (now buffers) (t .0)) < bufferRoom) × EntryIn e ⌝ }
+    ensures { λ r. ⌜ r ≡ Load.Nothing ⌝ }
+    ensures { λ _. ⌜ BuffersAre (now (buffered .exit)) (now (buffers .exit)) (set (buffersOf (now (buffered .entry)) (now (buffers .entry))) (t .0) (bufferOf (now (buffered .entry)) (now (buffers .entry)) (t .0) ++ entryOf e ∷ [])) ⌝ }
+{
     buffer_push(buffered, buffers, t, slot_of(e));
     Load::Nothing
 }
@@ -49,7 +75,12 @@ fn lock(
     l: Loc,
     old: u8,
     new: u8,
-) -> Load {
+) -> Load
+    requires { ⌜ Queues (now queued) (now queues) ⌝ }
+    requires { ⌜ (l .0 < locations) × (length (queueOf (now queued) (now queues) (l .0)) < queueRoom) ⌝ }
+    ensures { λ x. ⌜ x ≡ Load.Into t r old ⌝ }
+    ensures { λ _. ⌜ QueuesAre (now (queued .exit)) (now (queues .exit)) (set (queuesOf (now (queued .entry)) (now (queues .entry))) (l .0) (queueOf (now (queued .entry)) (now (queues .entry)) (l .0) ++ write (l .0) new ∷ [])) ⌝ }
+{
     queue_push(queued, queues, l, write_slot(l, new));
     Load::Into(t, r, old)
 }
@@ -65,7 +96,12 @@ fn do_op(
     memory: &[u8; 6],
     t: Thread,
     o: Op,
-) -> Load {
+) -> Load
+    requires { ⌜ Valid (held (now queued) (now queues) (now buffered) (now buffers) (now places) (now memory)) ⌝ }
+    requires { ⌜ (t .0 < threads) × Fits locations mostOps (getD (now places) (t .0) 0 - 1) o ⌝ }
+    requires { ⌜ ((p : Prog) (g : File) → verdictOf (does p joins (machineOf (held (now queued) (now queues) (now buffered) (now buffers) (now places) (now memory)) g) (t .0) o) ≡ Verdict.Allowed) ⌝ }
+    ensures { λ r. ⌜ ((p : Prog) → Takes (does p joins (machineOf (held (now (queued .entry)) (now (queues .entry)) (now (buffered .entry)) (now (buffers .entry)) (now (places .entry)) (now (memory .entry))) regs) (t .0) o) regs r (held (now (queued .exit)) (now (queues .exit)) (now (buffered .exit)) (now (buffers .exit)) (now (places .exit)) (now (memory .entry)))) ⌝ }
+{
     match o {
         Op::St(l, v) => join(buffered, buffers, t, Entry::Store(l, v)),
         Op::Sr(l, r) => {
@@ -112,7 +148,12 @@ fn step_thread(
     places: &mut [u8; 4],
     memory: &[u8; 6],
     t: Thread,
-) -> Load {
+) -> Load
+    requires { ⌜ Sound (now list) × Valid (held (now queued) (now queues) (now buffered) (now buffers) (now places) (now memory)) ⌝ }
+    requires { ⌜ t .0 < threads ⌝ }
+    requires { ⌜ ((p : Prog) (g : File) → Lists (now list) p → verdictOf (next p joins (machineOf (held (now queued) (now queues) (now buffered) (now buffers) (now places) (now memory)) g) (t .0) (instruction p (t .0) (getD (now places) (t .0) 0))) ≡ Verdict.Allowed) ⌝ }
+    ensures { λ r. ⌜ ((p : Prog) → Lists (now (list .entry)) p → Takes (next p joins (machineOf (held (now (queued .entry)) (now (queues .entry)) (now (buffered .entry)) (now (buffers .entry)) (now (places .entry)) (now (memory .entry))) regs) (t .0) (instruction p (t .0) (getD (now (places .entry)) (t .0) 0))) regs r (held (now (queued .exit)) (now (queues .exit)) (now (buffered .exit)) (now (buffers .exit)) (now (places .exit)) (now (memory .entry)))) ⌝ }
+{
     let at = t.0 as usize;
     let f = fetch(list, t, places[at]);
     match f {
@@ -135,7 +176,13 @@ fn step_thread(
 }
 
 // The entry e, which left the buffer of t, goes where it goes, which is allowed.
-fn go(queued: &mut [u16; 192], queues: &mut [u8; 6], t: Thread, e: Entry) {
+fn go(queued: &mut [u16; 192], queues: &mut [u8; 6], t: Thread, e: Entry)
+    requires { ⌜ Queues (now queued) (now queues) ⌝ }
+    requires { ⌜ (t .0 < threads) × EntryIn e ⌝ }
+    requires { ⌜ ((p : Prog) (bs : List (List PxEntry)) (vs ns : List ℕ) (g : File) → verdictOf (goes p (machineWith (queuesOf (now queued) (now queues)) bs vs ns g) (t .0) (entryOf e)) ≡ Verdict.Allowed) ⌝ }
+    ensures { λ _. ⌜ Queues (now (queued .exit)) (now (queues .exit)) ⌝ }
+    ensures { λ _. ⌜ ((p : Prog) (bs : List (List PxEntry)) (vs ns : List ℕ) (g : File) → goes p (machineWith (queuesOf (now (queued .entry)) (now (queues .entry))) bs vs ns g) (t .0) (entryOf e) ≡ to (machineWith (queuesOf (now (queued .exit)) (now (queues .exit))) bs vs ns g)) ⌝ }
+{
     match e {
         Entry::Fence => {}
         Entry::Store(l, v) => {
@@ -156,7 +203,14 @@ fn leave(
     buffers: &mut [u8; 4],
     t: Thread,
     i: u8,
-) {
+)
+    requires { ⌜ Queues (now queued) (now queues) ⌝ }
+    requires { ⌜ Buffers (now buffered) (now buffers) ⌝ }
+    requires { ⌜ t .0 < threads ⌝ }
+    requires { ⌜ ((p : Prog) (vs ns : List ℕ) (g : File) → verdictOf (leaves p (machineWith (queuesOf (now queued) (now queues)) (buffersOf (now buffered) (now buffers)) vs ns g) (t .0) i (getElem? (bufferOf (now buffered) (now buffers) (t .0)) i)) ≡ Verdict.Allowed) ⌝ }
+    ensures { λ _. ⌜ Queues (now (queued .exit)) (now (queues .exit)) × Buffers (now (buffered .exit)) (now (buffers .exit)) ⌝ }
+    ensures { λ _. ⌜ ((p : Prog) (vs ns : List ℕ) (g : File) → leaves p (machineWith (queuesOf (now (queued .entry)) (now (queues .entry))) (buffersOf (now (buffered .entry)) (now (buffers .entry))) vs ns g) (t .0) i (getElem? (bufferOf (now (buffered .entry)) (now (buffers .entry)) (t .0)) i) ≡ to (machineWith (queuesOf (now (queued .exit)) (now (queues .exit))) (buffersOf (now (buffered .exit)) (now (buffers .exit))) vs ns g)) ⌝ }
+{
     let at = t.0 as usize;
     let e = entry_of(buffered[at * State::BUFFER_ROOM + (i as usize)]);
     buffer_remove(buffered, buffers, t, i);
@@ -164,7 +218,13 @@ fn leave(
 }
 
 // Codes 64+l: the oldest entry of the queue of l goes, which is allowed.
-fn persist(queued: &mut [u16; 192], queues: &mut [u8; 6], memory: &mut [u8; 6], l: Loc) {
+fn persist(queued: &mut [u16; 192], queues: &mut [u8; 6], memory: &mut [u8; 6], l: Loc)
+    requires { ⌜ Queues (now queued) (now queues) ⌝ }
+    requires { ⌜ (l .0 < locations) × (0 < length (queueOf (now queued) (now queues) (l .0))) ⌝ }
+    ensures { λ _. ⌜ Queues (now (queued .exit)) (now (queues .exit)) ⌝ }
+    ensures { λ _. ⌜ length (now (memory .exit)) ≡ length (now (memory .entry)) ⌝ }
+    ensures { λ _. ⌜ ((bs : List (List PxEntry)) (ns : List ℕ) (g : File) → persists (machineWith (queuesOf (now (queued .entry)) (now (queues .entry))) bs (now (memory .entry)) ns g) (l .0) (queueOf (now (queued .entry)) (now (queues .entry)) (l .0)) ≡ to (machineWith (queuesOf (now (queued .exit)) (now (queues .exit))) bs (now (memory .exit)) ns g)) ⌝ }
+{
     let at = l.0 as usize;
     let e = queued[at * State::QUEUE_ROOM];
     queue_pop(queued, queues, l);
@@ -184,7 +244,11 @@ pub fn step(
     places: &mut [u8; 4],
     memory: &mut [u8; 6],
     c: u8,
-) -> Load {
+) -> Load
+    requires { ⌜ Sound (now list) × Valid (held (now queued) (now queues) (now buffered) (now buffers) (now places) (now memory)) ⌝ }
+    requires { ⌜ ((p : Prog) (g : File) → Lists (now list) p → verdictOf (stepOf p (machineOf (held (now queued) (now queues) (now buffered) (now buffers) (now places) (now memory)) g) c) ≡ Verdict.Allowed) ⌝ }
+    ensures { λ r. ⌜ ((p : Prog) → Lists (now (list .entry)) p → Takes (stepOf p (machineOf (held (now (queued .entry)) (now (queues .entry)) (now (buffered .entry)) (now (buffers .entry)) (now (places .entry)) (now (memory .entry))) regs) c) regs r (held (now (queued .exit)) (now (queues .exit)) (now (buffered .exit)) (now (buffers .exit)) (now (places .exit)) (now (memory .exit)))) ⌝ }
+{
     if c < Thread::LIMIT {
         return step_thread(
             list,

@@ -1,6 +1,18 @@
 // Whether a code is allowed in a state. No state is changed or handed back here.
 pub mod reads;
 
+ghost use mathlib.Core.Path.{_≡_};
+ghost use mathlib.Core.List.{List};
+ghost use Prim.Native.Nat.{ℕ, _<_, _≤_};
+ghost use lib.ListN.{length, getD, take, getElem?};
+ghost use Rattle.names.specs.Names.{threads, locations};
+ghost use Rattle.program.specs.Program.{Prog, mostOps};
+ghost use Rattle.program.specs.Kept.{Fits};
+ghost use Rattle.px86.specs.Machine.{Entry as PxEntry, Mark};
+ghost use Rattle.px86.specs.Step.{join, enqueue, locked, does, next, mayLeave, goes, leaves, persists, step};
+ghost use Rattle.listing.specs.Listing.{Lists, Sound};
+ghost use Rattle.state.specs.State.{entryOf, queuesOf, queueOf, buffersOf, bufferOf, Queues, Buffers, EntryIn, File, machineOf, held, Valid};
+ghost use Rattle.verdict.specs.Verdict.{verdictOf, allowedIf, Judges, instruction};
 use crate::reads::all_clear;
 use crate::reads::is_fenced;
 use crate::reads::overtakes;
@@ -30,7 +42,10 @@ pub enum Verdict {
 }
 
 // Whether one more entry fits into the queue of l.
-fn queue_room(queues: &[u8; 6], l: Loc) -> Verdict {
+fn queue_room(queues: &[u8; 6], l: Loc) -> Verdict
+    requires { ⌜ l .0 < locations ⌝ }
+    ensures { λ r. ⌜ ((xs : List ℕ) (bs : List (List PxEntry)) (vs : List ℕ) (k : Mark) → Queues xs (now (queues .entry)) → Judges (queuesOf xs (now (queues .entry))) bs vs (λ m. enqueue m (l .0) k) r) ⌝ }
+{
     let at = l.0 as usize;
     if (queues[at] as usize) < State::QUEUE_ROOM {
         Verdict::Allowed
@@ -40,7 +55,10 @@ fn queue_room(queues: &[u8; 6], l: Loc) -> Verdict {
 }
 
 // Whether one more entry fits into the buffer of t.
-fn buffer_room(buffers: &[u8; 4], t: Thread) -> Verdict {
+fn buffer_room(buffers: &[u8; 4], t: Thread) -> Verdict
+    requires { ⌜ t .0 < threads ⌝ }
+    ensures { λ r. ⌜ ((qs : List (List Mark)) (xs vs : List ℕ) (e : PxEntry) → Buffers xs (now (buffers .entry)) → Judges qs (buffersOf xs (now (buffers .entry))) vs (λ m. join m (t .0) e) r) ⌝ }
+{
     let at = t.0 as usize;
     if (buffers[at] as usize) < State::BUFFER_ROOM {
         Verdict::Allowed
@@ -50,7 +68,9 @@ fn buffer_room(buffers: &[u8; 4], t: Thread) -> Verdict {
 }
 
 // A step that is allowed where a test holds.
-fn allowed_if(b: bool) -> Verdict {
+fn allowed_if(b: bool) -> Verdict
+    ensures { λ r. ⌜ r ≡ allowedIf b ⌝ }
+{
     if b { Verdict::Allowed } else { Verdict::Barred }
 }
 
@@ -61,7 +81,11 @@ fn may_lock<'a>(
     buffers: &'a [u8; 4],
     t: Thread,
     l: Loc,
-) -> Verdict {
+) -> Verdict
+    requires { ⌜ Queues (now queued) (now queues) ⌝ }
+    requires { ⌜ (t .0 < threads) × (l .0 < locations) ⌝ }
+    ensures { λ x. ⌜ ((p : Prog) (xs vs : List ℕ) (r v : ℕ) → Buffers xs (now (buffers .entry)) → Judges (queuesOf (now (queued .entry)) (now (queues .entry))) (buffersOf xs (now (buffers .entry))) vs (λ m. locked p m (t .0) r (l .0) v) x) ⌝ }
+{
     if is_fenced(queued, queues, buffers, t) {
         queue_room(queues, l)
     } else {
@@ -78,7 +102,12 @@ fn may_do<'a>(
     memory: &'a [u8; 6],
     t: Thread,
     o: Op,
-) -> Verdict {
+) -> Verdict
+    requires { ⌜ Queues (now queued) (now queues) ⌝ }
+    requires { ⌜ Buffers (now buffered) (now buffers) ⌝ }
+    requires { ⌜ ((k : ℕ) × Fits locations mostOps k o) × (t .0 < threads) ⌝ }
+    ensures { λ r. ⌜ ((p : Prog) → Judges (queuesOf (now (queued .entry)) (now (queues .entry))) (buffersOf (now (buffered .entry)) (now (buffers .entry))) (now (memory .entry)) (λ m. does p join m (t .0) o) r) ⌝ }
+{
     match o {
         Op::St(_, _) => buffer_room(buffers, t),
         Op::Sr(_, _) => buffer_room(buffers, t),
@@ -98,7 +127,11 @@ fn may_do<'a>(
 }
 
 // Whether the entry e, which is the oldest of t's buffer or may overtake those that are older, may go.
-fn may_go<'a>(queued: &'a [u16; 192], queues: &'a [u8; 6], t: Thread, e: Entry) -> Verdict {
+fn may_go<'a>(queued: &'a [u16; 192], queues: &'a [u8; 6], t: Thread, e: Entry) -> Verdict
+    requires { ⌜ Queues (now queued) (now queues) ⌝ }
+    requires { ⌜ (t .0 < threads) × EntryIn e ⌝ }
+    ensures { λ r. ⌜ ((p : Prog) (bs : List (List PxEntry)) (vs : List ℕ) → Judges (queuesOf (now (queued .entry)) (now (queues .entry))) bs vs (λ m. goes p m (t .0) (entryOf e)) r) ⌝ }
+{
     match e {
         Entry::Fence => allowed_if(all_clear(queued, queues, t)),
         Entry::Store(l, _) => queue_room(queues, l),
@@ -111,7 +144,10 @@ fn may_go<'a>(queued: &'a [u16; 192], queues: &'a [u8; 6], t: Thread, e: Entry) 
 }
 
 // Whether the entry e may overtake all that is older than its place i in t's buffer.
-fn may_pass(buffered: &[u16; 32], t: Thread, i: u8, e: Entry) -> bool {
+fn may_pass(buffered: &[u16; 32], t: Thread, i: u8, e: Entry) -> bool
+    requires { ⌜ (t .0 < threads) × (i ≤ 8) ⌝ }
+    ensures { λ r. ⌜ ((p : Prog) (ns : List ℕ) → Buffers (now (buffered .entry)) ns → i ≤ length (bufferOf (now (buffered .entry)) ns (t .0)) → r ≡ mayLeave p (entryOf e) (take i (bufferOf (now (buffered .entry)) ns (t .0)))) ⌝ }
+{
     match e {
         Entry::Fence => i == 0,
         Entry::Store(_, _) => i == 0,
@@ -128,7 +164,12 @@ pub fn may_leave<'a>(
     buffers: &'a [u8; 4],
     t: Thread,
     i: u8,
-) -> Verdict {
+) -> Verdict
+    requires { ⌜ Queues (now queued) (now queues) ⌝ }
+    requires { ⌜ Buffers (now buffered) (now buffers) ⌝ }
+    requires { ⌜ t .0 < threads ⌝ }
+    ensures { λ r. ⌜ ((p : Prog) (vs : List ℕ) → Judges (queuesOf (now (queued .entry)) (now (queues .entry))) (buffersOf (now (buffered .entry)) (now (buffers .entry))) vs (λ m. leaves p m (t .0) i (getElem? (bufferOf (now (buffered .entry)) (now (buffers .entry)) (t .0)) i)) r) ⌝ }
+{
     let at = t.0 as usize;
     if buffers[at] <= i {
         return Verdict::Barred;
@@ -142,7 +183,10 @@ pub fn may_leave<'a>(
 }
 
 // Codes 64+l.
-pub fn may_persist(queues: &[u8; 6], l: Loc) -> Verdict {
+pub fn may_persist(queues: &[u8; 6], l: Loc) -> Verdict
+    requires { ⌜ l .0 < locations ⌝ }
+    ensures { λ r. ⌜ ((xs : List ℕ) (bs : List (List PxEntry)) (vs : List ℕ) → Queues xs (now (queues .entry)) → Judges (queuesOf xs (now (queues .entry))) bs vs (λ m. persists m (l .0) (queueOf xs (now (queues .entry)) (l .0))) r) ⌝ }
+{
     let at = l.0 as usize;
     if queues[at] == 0 {
         Verdict::Barred
@@ -161,7 +205,11 @@ pub fn may_step<'a>(
     places: &'a [u8; 4],
     memory: &'a [u8; 6],
     t: Thread,
-) -> Verdict {
+) -> Verdict
+    requires { ⌜ Sound (now list) × Valid (held (now queued) (now queues) (now buffered) (now buffers) (now places) (now memory)) ⌝ }
+    requires { ⌜ t .0 < threads ⌝ }
+    ensures { λ r. ⌜ ((p : Prog) (g : File) → Lists (now (list .entry)) p → r ≡ verdictOf (next p join (machineOf (held (now (queued .entry)) (now (queues .entry)) (now (buffered .entry)) (now (buffers .entry)) (now (places .entry)) (now (memory .entry))) g) (t .0) (instruction p (t .0) (getD (now (places .entry)) (t .0) 0)))) ⌝ }
+{
     let at = t.0 as usize;
     let f = fetch(list, t, places[at]);
     match f {
@@ -180,7 +228,10 @@ pub fn judge<'a>(
     places: &'a [u8; 4],
     memory: &'a [u8; 6],
     c: u8,
-) -> Verdict {
+) -> Verdict
+    requires { ⌜ Sound (now list) × Valid (held (now queued) (now queues) (now buffered) (now buffers) (now places) (now memory)) ⌝ }
+    ensures { λ r. ⌜ ((p : Prog) (g : File) → Lists (now (list .entry)) p → r ≡ verdictOf (step p (machineOf (held (now (queued .entry)) (now (queues .entry)) (now (buffered .entry)) (now (buffers .entry)) (now (places .entry)) (now (memory .entry))) g) c)) ⌝ }
+{
     if c < Thread::LIMIT {
         return may_step(
             list,

@@ -1,4 +1,13 @@
 // What a thread reads, and what a fence of it waits for.
+ghost use mathlib.Core.Path.{_≡_};
+ghost use mathlib.Core.List.{List, _∷_, []};
+ghost use Prim.Native.Nat.{ℕ, _<_, _≤_};
+ghost use lib.ListN.{length, take};
+ghost use Rattle.names.specs.Names.{threads, locations};
+ghost use Rattle.program.specs.Program.{Prog};
+ghost use Rattle.px86.specs.Machine.{Entry as PxEntry};
+ghost use Rattle.px86.specs.Step.{stored, written, reads, clear, allClear, fenced, blocks, passes};
+ghost use Rattle.state.specs.State.{markOf, entryIn, queuesOf, queueOf, buffersOf, bufferOf, Queues, Buffers, File, machineWith};
 use names::Loc;
 use names::Thread;
 use state::Entry;
@@ -6,7 +15,9 @@ use state::State;
 use state::entry_of;
 
 // What l holds after the queue's slot e, where it was v before: a write to l is taken up, and nothing else.
-fn after_slot(l: Loc, v: u8, e: u16) -> u8 {
+fn after_slot(l: Loc, v: u8, e: u16) -> u8
+    ensures { λ r. ⌜ r ≡ written (l .0) v (markOf e ∷ []) ⌝ }
+{
     if State::FIRST_FO <= e {
         return v;
     }
@@ -18,7 +29,9 @@ fn after_slot(l: Loc, v: u8, e: u16) -> u8 {
 }
 
 // The same of the buffer's slot x: a store to l is taken up, and nothing else.
-fn after_entry(l: Loc, v: u8, x: u16) -> u8 {
+fn after_entry(l: Loc, v: u8, x: u16) -> u8
+    ensures { λ r. ⌜ r ≡ stored (l .0) v (entryIn x ∷ []) ⌝ }
+{
     let e = entry_of(x);
     match e {
         Entry::Fence => v,
@@ -29,7 +42,11 @@ fn after_entry(l: Loc, v: u8, x: u16) -> u8 {
 }
 
 // The newest write to l in its queue, or `old` where there is none.
-fn newest_queued<'a>(queued: &'a [u16; 192], queues: &'a [u8; 6], l: Loc, old: u8) -> u8 {
+fn newest_queued<'a>(queued: &'a [u16; 192], queues: &'a [u8; 6], l: Loc, old: u8) -> u8
+    requires { ⌜ Queues (now queued) (now queues) ⌝ }
+    requires { ⌜ l .0 < locations ⌝ }
+    ensures { λ r. ⌜ r ≡ written (l .0) old (queueOf (now (queued .entry)) (now (queues .entry)) (l .0)) ⌝ }
+{
     let at = l.0 as usize;
     let n = queues[at] as usize;
     let mut v = old;
@@ -49,7 +66,11 @@ fn newest_buffered<'a>(
     t: Thread,
     l: Loc,
     old: u8,
-) -> u8 {
+) -> u8
+    requires { ⌜ Buffers (now buffered) (now buffers) ⌝ }
+    requires { ⌜ t .0 < threads ⌝ }
+    ensures { λ r. ⌜ r ≡ stored (l .0) old (bufferOf (now (buffered .entry)) (now (buffers .entry)) (t .0)) ⌝ }
+{
     let at = t.0 as usize;
     let n = buffers[at] as usize;
     let mut v = old;
@@ -71,7 +92,12 @@ pub fn read<'a>(
     memory: &'a [u8; 6],
     t: Thread,
     l: Loc,
-) -> u8 {
+) -> u8
+    requires { ⌜ Queues (now queued) (now queues) ⌝ }
+    requires { ⌜ Buffers (now buffered) (now buffers) ⌝ }
+    requires { ⌜ (t .0 < threads) × (l .0 < locations) ⌝ }
+    ensures { λ r. ⌜ ((p : Prog) (ns : List ℕ) (g : File) → r ≡ reads p (machineWith (queuesOf (now (queued .entry)) (now (queues .entry))) (buffersOf (now (buffered .entry)) (now (buffers .entry))) (now (memory .entry)) ns g) (t .0) (l .0)) ⌝ }
+{
     let at = l.0 as usize;
     let old = memory[at];
     let written = newest_queued(queued, queues, l, old);
@@ -79,7 +105,11 @@ pub fn read<'a>(
 }
 
 // Whether the queue of l holds no fo of t.
-fn queue_clear<'a>(queued: &'a [u16; 192], queues: &'a [u8; 6], t: Thread, l: Loc) -> bool {
+fn queue_clear<'a>(queued: &'a [u16; 192], queues: &'a [u8; 6], t: Thread, l: Loc) -> bool
+    requires { ⌜ Queues (now queued) (now queues) ⌝ }
+    requires { ⌜ (t .0 < threads) × (l .0 < locations) ⌝ }
+    ensures { λ r. ⌜ r ≡ clear (t .0) (queueOf (now (queued .entry)) (now (queues .entry)) (l .0)) ⌝ }
+{
     let at = l.0 as usize;
     let n = queues[at] as usize;
     let fo = State::FIRST_FO + (t.0 as u16);
@@ -95,7 +125,11 @@ fn queue_clear<'a>(queued: &'a [u16; 192], queues: &'a [u8; 6], t: Thread, l: Lo
 }
 
 // Whether no queue holds one.
-pub fn all_clear<'a>(queued: &'a [u16; 192], queues: &'a [u8; 6], t: Thread) -> bool {
+pub fn all_clear<'a>(queued: &'a [u16; 192], queues: &'a [u8; 6], t: Thread) -> bool
+    requires { ⌜ Queues (now queued) (now queues) ⌝ }
+    requires { ⌜ t .0 < threads ⌝ }
+    ensures { λ r. ⌜ r ≡ allClear (t .0) (queuesOf (now (queued .entry)) (now (queues .entry))) ⌝ }
+{
     let mut l: u8 = 0;
     while l < Loc::LIMIT {
         if !queue_clear(queued, queues, t, Loc(l)) {
@@ -112,7 +146,11 @@ pub fn is_fenced<'a>(
     queues: &'a [u8; 6],
     buffers: &'a [u8; 4],
     t: Thread,
-) -> bool {
+) -> bool
+    requires { ⌜ Queues (now queued) (now queues) ⌝ }
+    requires { ⌜ t .0 < threads ⌝ }
+    ensures { λ r. ⌜ ((xs : List ℕ) (vs ns : List ℕ) (g : File) → Buffers xs (now (buffers .entry)) → r ≡ fenced (machineWith (queuesOf (now (queued .entry)) (now (queues .entry))) (buffersOf xs (now (buffers .entry))) vs ns g) (t .0)) ⌝ }
+{
     let at = t.0 as usize;
     if buffers[at] == 0 {
         all_clear(queued, queues, t)
@@ -122,7 +160,9 @@ pub fn is_fenced<'a>(
 }
 
 // Whether no fo of l may overtake the buffer's slot x.
-fn stops(l: Loc, x: u16) -> bool {
+fn stops(l: Loc, x: u16) -> bool
+    ensures { λ r. ⌜ ((p : Prog) → r ≡ blocks p (l .0) (entryIn x)) ⌝ }
+{
     let e = entry_of(x);
     match e {
         Entry::Fence => true,
@@ -133,7 +173,10 @@ fn stops(l: Loc, x: u16) -> bool {
 }
 
 // Whether an fo of l may overtake all that is older than place i of the buffer of t.
-pub fn overtakes(buffered: &[u16; 32], t: Thread, l: Loc, i: u8) -> bool {
+pub fn overtakes(buffered: &[u16; 32], t: Thread, l: Loc, i: u8) -> bool
+    requires { ⌜ (t .0 < threads) × (i ≤ 8) ⌝ }
+    ensures { λ r. ⌜ ((p : Prog) (ns : List ℕ) → Buffers (now (buffered .entry)) ns → i ≤ length (bufferOf (now (buffered .entry)) ns (t .0)) → r ≡ passes p (l .0) (take i (bufferOf (now (buffered .entry)) ns (t .0)))) ⌝ }
+{
     let at = t.0 as usize;
     let n = i as usize;
     let mut j: usize = 0;
