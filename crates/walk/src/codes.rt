@@ -1,5 +1,14 @@
 // The first code that is not barred. Threads that are not there, places behind a buffer's last entry and empty queues are passed over.
 use names::Loc;
+ghost use mathlib.Core.Path.{_≡_};
+ghost use mathlib.Core.List.{List};
+ghost use Prim.Native.Nat.{ℕ, _≤_};
+ghost use Rattle.names.specs.Names.{threads as mostThreads};
+ghost use Rattle.px86.specs.Runs.{codes};
+ghost use Rattle.listing.specs.Listing.{Sound};
+ghost use Rattle.state.specs.State.{Queues, Buffers, held, Valid};
+ghost use Rattle.state.specs.declared.State.{State};
+ghost use Rattle.walk.specs.Codes.{Beyond, First, barring};
 use names::Thread;
 use verdict::LEAVE;
 use verdict::LEAVE_END;
@@ -15,12 +24,16 @@ pub struct Found {
     pub verdict: Verdict,
 }
 
-fn found(code: u8, verdict: Verdict) -> Found {
+fn found(code: u8, verdict: Verdict) -> Found
+    ensures { λ r. ⌜ (r .code ≡ code) × (r .verdict ≡ verdict) ⌝ }
+{
     Found { code, verdict }
 }
 
 // Whether a verdict is that the code is barred.
-fn is_barred(v: Verdict) -> bool {
+fn is_barred(v: Verdict) -> bool
+    ensures { λ r. ⌜ r ≡ barring v ⌝ }
+{
     match v {
         Verdict::Allowed => false,
         Verdict::Barred => true,
@@ -29,7 +42,10 @@ fn is_barred(v: Verdict) -> bool {
 }
 
 // The first queue from code c upward that is not empty.
-fn next_persist(queues: &[u8; 6], c: u8) -> Found {
+fn next_persist(queues: &[u8; 6], c: u8) -> Found
+    requires { ⌜ (64 ≤ c) × (c ≤ codes) ⌝ }
+    ensures { λ r. ⌜ ((list : List ℕ) (s : State) → Valid s → s .queues ≡ now (queues .entry) → First list s c r) ⌝ }
+{
     let mut k = c;
     while k < PERSIST_END {
         let at = (k - PERSIST) as usize;
@@ -48,7 +64,12 @@ fn next_leave<'a>(
     buffered: &'a [u16; 32],
     buffers: &'a [u8; 4],
     c: u8,
-) -> Found {
+) -> Found
+    requires { ⌜ Queues (now queued) (now queues) ⌝ }
+    requires { ⌜ Buffers (now buffered) (now buffers) ⌝ }
+    requires { ⌜ (16 ≤ c) × (c ≤ codes) ⌝ }
+    ensures { λ r. ⌜ ((list places memory : List ℕ) → Valid (held (now (queued .entry)) (now (queues .entry)) (now (buffered .entry)) (now (buffers .entry)) places memory) → First list (held (now (queued .entry)) (now (queues .entry)) (now (buffered .entry)) (now (buffers .entry)) places memory) c r) ⌝ }
+{
     let mut k = c;
     while k < LEAVE_END {
         let t = (k - LEAVE) / 8;
@@ -80,7 +101,11 @@ pub fn next_from<'a>(
     places: &'a [u8; 4],
     memory: &'a [u8; 6],
     c: u8,
-) -> Found {
+) -> Found
+    requires { ⌜ Sound (now list) × Valid (held (now queued) (now queues) (now buffered) (now buffers) (now places) (now memory)) ⌝ }
+    requires { ⌜ (threads ≤ mostThreads) × Beyond (now list) threads × (c ≤ codes) ⌝ }
+    ensures { λ r. ⌜ First (now (list .entry)) (held (now (queued .entry)) (now (queues .entry)) (now (buffered .entry)) (now (buffers .entry)) (now (places .entry)) (now (memory .entry))) c r ⌝ }
+{
     let mut k = c;
     while k < threads {
         let v = may_step(

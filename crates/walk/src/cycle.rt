@@ -1,5 +1,20 @@
 // The walk: visiting a state and trying its codes from c upward call each other. The work left falls from a state to the next, and the codes
 // left from one code to the next.
+ghost use mathlib.Core.Path.{_≡_};
+ghost use mathlib.Core.List.{List, [], _∷_, _++_, foldl};
+ghost use Prim.Native.Nat.{ℕ, _+_, _≤_};
+ghost use lib.ListN.{length, take};
+ghost use Rattle.program.specs.Program.{Prog};
+ghost use Rattle.px86.specs.Machine.{Machine};
+ghost use Rattle.px86.specs.Step.{step as stepOf};
+ghost use Rattle.px86.specs.Step.Stepped.{to};
+ghost use Rattle.px86.specs.Runs.{codes, work};
+ghost use Rattle.px86.specs.Ask.{Tally};
+ghost use Rattle.listing.specs.Listing.{Lists};
+ghost use Rattle.state.specs.State.{File, machineOf, held};
+ghost use Rattle.verdict.specs.Verdict.{verdictOf};
+ghost use Rattle.walk.specs.Found.{Holds, noted};
+ghost use Rattle.walk.specs.Walk.{runs, onward, asked, Walks};
 use crate::codes::next_from;
 use crate::note::Asking;
 use crate::note::Status;
@@ -13,7 +28,9 @@ use state::State;
 use verdict::Verdict;
 
 // An allowed step lacks room: the answer is known.
-fn filled(w: Walked) -> Walked {
+fn filled(w: Walked) -> Walked
+    ensures { λ r. ⌜ r .status ≡ Status.Full ⌝ }
+{
     Walked {
         status: Status::Full,
         count: w.count,
@@ -38,7 +55,13 @@ pub fn visit<'a>(
     w: Walked,
     path: &mut [u8],
     out: &mut [u8],
-) -> Walked {
+) -> Walked
+    requires { ⌜ Walks (now list) q (held (now queued) (now queues) (now buffered) (now buffers) (now places) (now memory)) g ⌝ }
+    requires { ⌜ ((p : Prog) (f : File) → Lists (now list) p → verdictOf (stepOf p (machineOf (held (now queued) (now queues) (now buffered) (now buffers) (now places) (now memory)) f) k) ≡ Verdict.Allowed) ⌝ }
+    requires { ⌜ (d + work (asked q (now list)) (machineOf (held (now queued) (now queues) (now buffered) (now buffers) (now places) (now memory)) g) ≤ length (now path)) × (k ≤ codes) ⌝ }
+    ensures { λ r. ⌜ ((a : Tally) (m : Machine) → Holds q w (now (out .entry)) a → stepOf (asked q (now (list .entry))) (machineOf (held (now (queued .entry)) (now (queues .entry)) (now (buffered .entry)) (now (buffers .entry)) (now (places .entry)) (now (memory .entry))) g) k ≡ to m → Holds q r (now (out .exit)) (foldl (noted (asked q (now (list .entry))) q) a (runs (asked q (now (list .entry))) (take d (now (path .entry)) ++ k ∷ []) m))) ⌝ }
+    ensures { λ _. ⌜ take d (now (path .exit)) ≡ take d (now (path .entry)) ⌝ }
+{
     let mut queued = *queued;
     let mut queues = *queues;
     let mut buffered = *buffered;
@@ -93,7 +116,12 @@ pub fn try_from<'a>(
     w: Walked,
     path: &mut [u8],
     out: &mut [u8],
-) -> Walked {
+) -> Walked
+    requires { ⌜ Walks (now list) q (held (now queued) (now queues) (now buffered) (now buffers) (now places) (now memory)) g ⌝ }
+    requires { ⌜ (d + work (asked q (now list)) (machineOf (held (now queued) (now queues) (now buffered) (now buffers) (now places) (now memory)) g) ≤ length (now path)) × (c ≤ codes) ⌝ }
+    ensures { λ r. ⌜ ((a : Tally) → Holds q w (now (out .entry)) a → Holds q r (now (out .exit)) (foldl (noted (asked q (now (list .entry))) q) a (onward (asked q (now (list .entry))) (take d (now (path .entry))) (machineOf (held (now (queued .entry)) (now (queues .entry)) (now (buffered .entry)) (now (buffers .entry)) (now (places .entry)) (now (memory .entry))) g) c))) ⌝ }
+    ensures { λ _. ⌜ take d (now (path .exit)) ≡ take d (now (path .entry)) ⌝ }
+{
     let mut v = w;
     let mut k = c;
     loop {
