@@ -137,8 +137,9 @@ module _ (list : List ℕ) (q : Asking) (s : State) (g : File) (ok : Walks list 
             → Holds q v i (foldl (noted (asked q list) q) b (runs (asked q list) (back ++ f .code ∷ []) m)))
             → Between c (f .code + 1) v i
         taken e v i back same visit =
-            let x = allowed-to (step (asked q list) (machineOf s g) (f .code)) (first-allowed list s k f first e (asked q list) g (ok .lists)) in
-            (foldl (noted (asked q list) q) (between .0) (runs (asked q list) (r ++ f .code ∷ []) (x .0)),
-            rw same at (visit (between .0) (x .0) (between .1) (x .1)),
-            sym (fold-to list (asked q list) (ok .lists) s g (noted (asked q list) q) (between .0) r k (f .code) (first .upto) (x .0) (allowed-below list s k f first e) (x .1))
-            ∙ between .2)
+            let x = allowed-to (step (asked q list) (machineOf s g) (f .code)) (first-allowed list s k f first e (asked q list) g (ok .lists)) in (
+              foldl (noted (asked q list) q) (between .0) (runs (asked q list) (r ++ f .code ∷ []) (x .0)),
+              rw same at (visit (between .0) (x .0) (between .1) (x .1)),
+              sym (fold-to list (asked q list) (ok .lists) s g (noted (asked q list) q) (between .0) r k (f .code) (first .upto) (x .0) (allowed-below list s k f first e) (x .1))
+                  ∙ between .2,
+            )
