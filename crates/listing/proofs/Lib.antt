@@ -1,0 +1,1 @@
+-- Laws of listings, which the proofs of the machine and the walk cite.
