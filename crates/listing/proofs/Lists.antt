@@ -52,14 +52,14 @@ threads-in (os ∷ oss) list h short =
     let first : opsIn (take each list) ≡ os =
     ops-in os (take each list)
     (λ k b.
-        let few : length os ≤ 8 = short 0 in
-        let e : 0 * 9 + k ≡ k = omega arith in
-        rw (getD-take each list k 0 (omega arith)) (rw e at (h 0 k (omega arith) (omega arith)))) in
+    let few : length os ≤ 8 = short 0 in
+    let e : 0 * 9 + k ≡ k = omega arith in
+    rw (getD-take each list k 0 (omega arith)) (rw e at (h 0 k (omega arith) (omega arith)))) in
     let rest : threadsIn (length oss) (drop each list) ≡ oss =
     threads-in oss (drop each list)
     (λ t k b c.
-        let e : suc t * 9 + k ≡ 9 + (t * 9 + k) = omega arith in
-        rw (getD-drop each list (t * 9 + k) 0) (rw e at (h (suc t) k (omega arith) c)))
+    let e : suc t * 9 + k ≡ 9 + (t * 9 + k) = omega arith in
+    rw (getD-drop each list (t * 9 + k) 0) (rw e at (h (suc t) k (omega arith) c)))
     (λ t. short (suc t)) in
     rw (first, rest)
 
@@ -77,11 +77,11 @@ pub exact-once : (xs ys : List ℕ) (p : Prog) → Exact xs p → Exact ys p →
 exact-once xs ys p a b =
     ext-getD 0 xs ys (a .long ∙ sym (b .long))
     (λ i h.
-        let long : length xs ≡ 36 = a .long in
-        let t : i / 9 < 4 = omega arith in
-        let k : i % 9 ≤ 8 = omega arith in
-        let e : i / 9 * 9 + i % 9 ≡ i = div-add-mod' i 9 in
-        rw e at (a .is (i / 9) (i % 9) t k ∙ sym (b .is (i / 9) (i % 9) t k)))
+    let long : length xs ≡ 36 = a .long in
+    let t : i / 9 < 4 = omega arith in
+    let k : i % 9 ≤ 8 = omega arith in
+    let e : i / 9 * 9 + i % 9 ≡ i = div-add-mod' i 9 in
+    rw e at (a .is (i / 9) (i % 9) t k ∙ sym (b .is (i / 9) (i % 9) t k)))
 
 -- the number x is that of o, if it is that of one
 abbrev pub Stands : ℕ → Option Op → Type 0

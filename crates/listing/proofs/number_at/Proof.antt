@@ -23,7 +23,7 @@ enum-known-f c = search needs
 number-of-requires : tie.Need-number-of-requires
 number-of-requires c κs = let b = c .before .before .before .before in
     let a = b .args in
-    named 8 (a .k) _ (found-fits (a .p) (b .pre) (a .t) (a .k) _ (found-some _ _ _ (c .before .before .before .op-at .ensures) (c .before .f .given .1)))
+    named 8 (a .k) (c .before .f .given .0 .0) (found-fits (a .p) (b .pre) (a .t) (a .k) _ (found-some _ _ _ (c .before .before .before .op-at .ensures) (c .before .f .given .1)))
 
 enum-told : tie.Need-enum-told
 enum-told c = search needs
