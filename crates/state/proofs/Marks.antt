@@ -110,3 +110,20 @@ entry-back x h =
 -- an entry is that of one slot up to that of an sf
 pub entry-once : (k : PxEntry) (x y : ℕ) → x ≤ 1548 → y ≤ 1548 → entryIn x ≡ k → entryIn y ≡ k → x ≡ y
 entry-once k x y a b p q = sym (entry-back x a) ∙ (ap slotIn (p ∙ sym q) ∙ entry-back y b)
+
+-- the slot of a write in a queue is that of the same store in a buffer
+abbrev storeOf : Mark → PxEntry
+storeOf (write l v) = store l v
+storeOf (opt t) = fence
+
+store-by : (x l v : ℕ) (b : Bool) → ltb x 1536 ≡ b → markOf x ≡ write l v → (entryIn x ≡ store l v) × (x < 1536)
+store-by x l v true e m =
+    let h : x < 1536 = ltb-true x 1536 e in
+    (entry-store x h ∙ ap storeOf (sym (mark-write x h) ∙ m), h)
+store-by x l v false e m =
+    let o : opt (x - 1536) ≡ write l v = sym (mark-opt x (ltb-false x 1536 e)) ∙ m in
+    let z : _≡_ {A = ℕ} 0 1 = cc in
+    absurd (omega arith)
+
+pub mark-store : (x l v : ℕ) → markOf x ≡ write l v → (entryIn x ≡ store l v) × (x < 1536)
+mark-store x l v = store-by x l v (ltb x 1536) refl

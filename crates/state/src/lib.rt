@@ -1,7 +1,7 @@
 // The state of the machine: store buffers and persist queues in flat tables, places and memory. The registers stand beside it.
 ghost use mathlib.Core.Path.{_≡_};
 ghost use mathlib.Core.List.{_++_, _∷_, []};
-ghost use Prim.Native.Nat.{_+_, _*_, _<_, _≤_};
+ghost use Prim.Native.Nat.{_+_, _<_, _≤_};
 ghost use lib.ListN.{length, getD, set};
 ghost use Rattle.names.specs.Names.{threads, locations};
 ghost use Rattle.tables.specs.Tables.{without, closed};
@@ -64,7 +64,6 @@ impl State {
 pub fn write_slot(l: Loc, v: u8) -> u16
     requires { ⌜ l .0 < locations ⌝ }
     ensures { λ r. ⌜ markOf r ≡ write (l .0) v ⌝ }
-    ensures { λ r. ⌜ r ≡ l .0 * 256 + v ⌝ }
 {
     (l.0 as u16) * 256 + (v as u16)
 }
