@@ -7,7 +7,6 @@ ghost use Rattle.names.specs.Names.{threads as mostThreads};
 ghost use Rattle.px86.specs.Runs.{codes};
 ghost use Rattle.listing.specs.Listing.{Sound};
 ghost use Rattle.state.specs.State.{Queues, Buffers, held, Valid};
-ghost use Rattle.state.specs.declared.State.{State};
 ghost use Rattle.walk.specs.Codes.{Beyond, First, barring};
 use names::Thread;
 use verdict::LEAVE;
@@ -16,6 +15,7 @@ use verdict::PERSIST;
 use verdict::PERSIST_END;
 use verdict::Verdict;
 use verdict::may_leave;
+use verdict::may_persist;
 use verdict::may_step;
 
 // A code and the verdict on it; barred where there is none.
@@ -24,7 +24,7 @@ pub struct Found {
     pub verdict: Verdict,
 }
 
-fn found(code: u8, verdict: Verdict) -> Found
+fn at_code(code: u8, verdict: Verdict) -> Found
     ensures { λ r. ⌜ (r .code ≡ code) × (r .verdict ≡ verdict) ⌝ }
 {
     Found { code, verdict }
@@ -44,17 +44,17 @@ fn is_barred(v: Verdict) -> bool
 // The first queue from code c upward that is not empty.
 fn next_persist(queues: &[u8; 6], c: u8) -> Found
     requires { ⌜ (64 ≤ c) × (c ≤ codes) ⌝ }
-    ensures { λ r. ⌜ ((list : List ℕ) (s : State) → Valid s → s .queues ≡ now (queues .entry) → First list s c r) ⌝ }
+    ensures { λ r. ⌜ ((list xs ys ms ps vs : List ℕ) → Queues xs (now (queues .entry)) → First list (held xs (now (queues .entry)) ys ms ps vs) c r) ⌝ }
 {
     let mut k = c;
     while k < PERSIST_END {
-        let at = (k - PERSIST) as usize;
-        if queues[at] != 0 {
-            return found(k, Verdict::Allowed);
+        let v = may_persist(queues, Loc(k - PERSIST));
+        if !is_barred(v) {
+            return at_code(k, v);
         }
         k += 1;
     }
-    found(k, Verdict::Barred)
+    at_code(k, Verdict::Barred)
 }
 
 // The first entry from code c upward that may leave its buffer; behind them the queues.
@@ -68,7 +68,7 @@ fn next_leave<'a>(
     requires { ⌜ Queues (now queued) (now queues) ⌝ }
     requires { ⌜ Buffers (now buffered) (now buffers) ⌝ }
     requires { ⌜ (16 ≤ c) × (c ≤ codes) ⌝ }
-    ensures { λ r. ⌜ ((list places memory : List ℕ) → Valid (held (now (queued .entry)) (now (queues .entry)) (now (buffered .entry)) (now (buffers .entry)) places memory) → First list (held (now (queued .entry)) (now (queues .entry)) (now (buffered .entry)) (now (buffers .entry)) places memory) c r) ⌝ }
+    ensures { λ r. ⌜ ((list ps vs : List ℕ) → First list (held (now (queued .entry)) (now (queues .entry)) (now (buffered .entry)) (now (buffers .entry)) ps vs) c r) ⌝ }
 {
     let mut k = c;
     while k < LEAVE_END {
@@ -77,7 +77,7 @@ fn next_leave<'a>(
         if i < buffers[t as usize] {
             let v = may_leave(queued, queues, buffered, buffers, Thread(t), i);
             if !is_barred(v) {
-                return found(k, v);
+                return at_code(k, v);
             }
             k += 1;
         } else {
@@ -119,7 +119,7 @@ pub fn next_from<'a>(
             Thread(k),
         );
         if !is_barred(v) {
-            return found(k, v);
+            return at_code(k, v);
         }
         k += 1;
     }
