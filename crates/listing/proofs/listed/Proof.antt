@@ -94,4 +94,26 @@ returns c = let l = c .before .loop in
     (lists, (lists-sound p (l .list) (b .pre) lists, (lists-prog p (l .list) (b .pre) s lists, written-exact p (l .list) (l .t * 9) (l .inv .1) all)))
 
 pub listed-spec : {M : Type 1} → statement M
-listed-spec = tie.close (tie.spec Inv-loop2 μ-loop2 Inv-loop μ-loop loop-holds loop2-holds number-at-requires cast-list mul-list cast-list-2 add-list mul-list-2 array-write-list add-k loop2-less loop2-again add-t loop-less loop-again returns)
+listed-spec =
+    tie.close
+    (tie.spec
+    Inv-loop2
+    μ-loop2
+    Inv-loop
+    μ-loop
+    loop-holds
+    loop2-holds
+    number-at-requires
+    cast-list
+    mul-list
+    cast-list-2
+    add-list
+    mul-list-2
+    array-write-list
+    add-k
+    loop2-less
+    loop2-again
+    add-t
+    loop-less
+    loop-again
+    returns)
