@@ -3,11 +3,10 @@
 use Prim.Native.Nat.{_+_, _*_, _-_, _≤_}
 use mathlib.Core.Path.{_≡_, sym, _∙_, ap}
 use native.Mathlib.Omega.{arith}
-use lib.ListN.{length}
 use Rattle.tables.proofs.Rows.{length-mapped}
 use Rattle.program.specs.Kept.{Sized}
 use Rattle.listing.specs.Listing.{numberOf}
-use Rattle.listing.proofs.Lists.{Written, listedAt, listed-at, written-none, written-on, written-gap, written-lists, written-exact, lists-sound, lists-prog, ninth}
+use Rattle.listing.proofs.Lists.{Written, listed-at, written-none, written-on, written-gap, written-lists, written-exact, lists-sound, lists-prog, ninth}
 use borrow.Author.Needs.{needs}
 use Rattle.listing.proofs.listed.Statement.{statement}
 use Rattle.listing.proofs.listed.Tie as tie
