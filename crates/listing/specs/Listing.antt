@@ -89,8 +89,9 @@ progIn list n locs = record { threads = threadsIn n list; locs = locs }
 pub record Lists (list : List ℕ) (p : Prog) : Type 0 where
   pub is : (t k : ℕ) → t < threads → k ≤ mostOps → opIn (at list t k) ≡ getElem? (getD (p .threads) t []) k
 
--- it is that of some program, and its instructions keep the limits
+-- it is that of some program, its instructions keep the limits, and at the last place that a thread can have there is none
 pub record Sound (list : List ℕ) : Type 0 where
   pub of : Prog
   pub lists : Lists list of
   pub fits : (t k : ℕ) (o : Op) → t < threads → k ≤ mostOps → opIn (at list t k) ≡ some o → Fits locations mostOps k o
+  pub ends : (t : ℕ) → t < threads → opIn (at list t mostOps) ≡ none
