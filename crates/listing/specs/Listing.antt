@@ -4,7 +4,7 @@ use mathlib.Core.Path.{_≡_}
 use mathlib.Core.Option.{Option, none, some}
 use mathlib.Core.List.{List, [], _∷_}
 use lib.Dec.{eqb}
-use lib.ListN.{getD, getElem?, take, drop}
+use lib.ListN.{length, getD, getElem?, take, drop}
 use Rattle.names.specs.Names.{pick, threads, locations, registers}
 use Rattle.names.specs.declared.Loc.{Loc}
 use Rattle.names.specs.declared.Reg.{Reg}
@@ -33,6 +33,10 @@ lowIn n = n % 256
 abbrev pub highIn : ℕ → ℕ
 highIn n = n / 256 % 256
 
+-- x has these parts
+abbrev pub Parts : ℕ → Loc → Reg → ℕ → ℕ → ℕ → Type 0
+Parts kind l r b a x = (x / 16777216 ≡ kind) × (locIn x ≡ l) × (regIn x ≡ r) × (highIn x ≡ b) × (lowIn x ≡ a)
+
 -- the instruction of this kind with the other parts of n
 unfoldable pub ofKind : ℕ → ℕ → Option Op
 ofKind kind n =
@@ -50,6 +54,23 @@ ofKind kind n =
 -- the instruction that a number stands for; 0 stands for none
 unfoldable pub opIn : ℕ → Option Op
 opIn n = ofKind (n / 16777216) n
+
+-- the number by which an instruction is listed, and 0 where there is none
+unfoldable pub numberFor : Op → ℕ
+numberFor (St l v) = numberIs 1 (l .0) 0 0 v
+numberFor (Sr l r) = numberIs 2 (l .0) (r .0) 0 0
+numberFor (Ld r l) = numberIs 3 (l .0) (r .0) 0 0
+numberFor (Cas r l e v) = numberIs 4 (l .0) (r .0) v e
+numberFor (Faa r l v) = numberIs 5 (l .0) (r .0) 0 v
+numberFor Mf = numberIs 6 0 0 0 0
+numberFor Sf = numberIs 7 0 0 0 0
+numberFor (Fl l) = numberIs 8 (l .0) 0 0 0
+numberFor (Fo l) = numberIs 9 (l .0) 0 0 0
+numberFor (Bz r d) = numberIs 10 0 (r .0) 0 d
+
+unfoldable pub numberOf : Option Op → ℕ
+numberOf none = 0
+numberOf (some o) = numberFor o
 
 -- an instruction names a location and a register that can be
 abbrev pub Named : Op → Type 0
@@ -88,6 +109,11 @@ progIn list n locs = record { threads = threadsIn n list; locs = locs }
 -- the listing has p's instructions, each at its place, and none behind them
 pub record Lists (list : List ℕ) (p : Prog) : Type 0 where
   pub is : (t k : ℕ) → t < threads → k ≤ mostOps → opIn (at list t k) ≡ getElem? (getD (p .threads) t []) k
+
+-- and each by the number that is its own, so that there is one such listing
+pub record Exact (list : List ℕ) (p : Prog) : Type 0 where
+  pub long : length list ≡ threads * each
+  pub is : (t k : ℕ) → t < threads → k ≤ mostOps → at list t k ≡ numberOf (getElem? (getD (p .threads) t []) k)
 
 -- it is that of some program, its instructions keep the limits, and at the last place that a thread can have there is none
 pub record Sound (list : List ℕ) : Type 0 where

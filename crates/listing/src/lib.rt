@@ -8,7 +8,7 @@ ghost use Rattle.program.specs.Program.{progOf, mostOps, fetchedOf};
 ghost use Rattle.program.specs.Legal.{legal};
 ghost use Rattle.program.specs.Kept.{threadAt};
 ghost use lib.ListN.{getElem?};
-ghost use Rattle.listing.specs.Listing.{numberIs, locIn, regIn, lowIn, highIn, opIn, Named, at as numberAt, progIn, Lists, Sound};
+ghost use Rattle.listing.specs.Listing.{numberIs, Parts, locIn, regIn, lowIn, highIn, opIn, numberFor, numberOf, Named, at as numberAt, progIn, Lists, Sound, Exact};
 use names::Loc;
 use names::Reg;
 use names::Thread;
@@ -24,6 +24,7 @@ pub const EACH: usize = 9;
 fn number(kind: u32, l: Loc, r: Reg, b: u8, a: u8) -> u32
     requires { ⌜ (kind ≤ 10) × (l .0 < locations) × (r .0 < registers) ⌝ }
     ensures { λ x. ⌜ x ≡ numberIs kind (l .0) (r .0) b a ⌝ }
+    ensures { λ x. ⌜ Parts kind l r b a x ⌝ }
 {
     kind * 16777216 + ((l.0 as u32) * 4 + (r.0 as u32)) * 65536 + (b as u32) * 256 + (a as u32)
 }
@@ -31,6 +32,7 @@ fn number(kind: u32, l: Loc, r: Reg, b: u8, a: u8) -> u32
 fn number_of(o: Op) -> u32
     requires { ⌜ Named o ⌝ }
     ensures { λ x. ⌜ opIn x ≡ some o ⌝ }
+    ensures { λ x. ⌜ x ≡ numberFor o ⌝ }
 {
     match o {
         Op::St(l, v) => number(1, l, Reg(0), 0, v),
@@ -93,6 +95,7 @@ pub fn op_of(n: u32) -> Fetched
 fn number_at(p: Program, t: u8, k: u8) -> u32
     requires { ⌜ legal p ≡ true ⌝ }
     ensures { λ r. ⌜ opIn r ≡ getElem? (threadAt p t) k ⌝ }
+    ensures { λ r. ⌜ r ≡ numberOf (getElem? (threadAt p t) k) ⌝ }
 {
     let f = op_at(p, Thread(t), k);
     match f {
@@ -107,6 +110,7 @@ pub fn listed(p: Program) -> [u32; 36]
     ensures { λ r. ⌜ Lists r (progOf p) ⌝ }
     ensures { λ r. ⌜ Sound r ⌝ }
     ensures { λ r. ⌜ progIn r (p .threads) (p .locs) ≡ progOf p ⌝ }
+    ensures { λ r. ⌜ Exact r (progOf p) ⌝ }
 {
     let mut list = [0u32; 36];
     let mut t: u8 = 0;
