@@ -3,16 +3,17 @@ pub mod reads;
 
 ghost use mathlib.Core.Path.{_≡_};
 ghost use mathlib.Core.List.{List};
-ghost use Prim.Native.Nat.{ℕ, _<_, _≤_};
-ghost use lib.ListN.{length, getD, take, getElem?};
+ghost use Prim.Native.Nat.{ℕ, _*_, _<_, _≤_};
+ghost use lib.Dec.{ltb};
+ghost use lib.ListN.{getD, getElem?};
 ghost use Rattle.names.specs.Names.{threads, locations};
 ghost use Rattle.program.specs.Program.{Prog, mostOps};
 ghost use Rattle.program.specs.Kept.{Fits};
-ghost use Rattle.px86.specs.Machine.{Entry as PxEntry, Mark};
-ghost use Rattle.px86.specs.Step.{join, enqueue, locked, does, next, mayLeave, goes, leaves, persists, step};
+ghost use Rattle.px86.specs.Machine.{Entry as PxEntry};
+ghost use Rattle.px86.specs.Step.{bufferRoom, queueRoom, join, locked, does, next, mayLeave, goes, leaves, persists, step};
 ghost use Rattle.listing.specs.Listing.{Lists, Sound};
 ghost use Rattle.state.specs.State.{entryOf, queuesOf, queueOf, buffersOf, bufferOf, Queues, Buffers, EntryIn, File, machineOf, held, Valid};
-ghost use Rattle.verdict.specs.Verdict.{verdictOf, allowedIf, Judges, instruction};
+ghost use Rattle.verdict.specs.Verdict.{verdictOf, allowedIf, roomIf, entriesFrom, Judges, instruction};
 use crate::reads::all_clear;
 use crate::reads::is_fenced;
 use crate::reads::overtakes;
@@ -44,10 +45,10 @@ pub enum Verdict {
 // Whether one more entry fits into the queue of l.
 fn queue_room(queues: &[u8; 6], l: Loc) -> Verdict
     requires { ⌜ l .0 < locations ⌝ }
-    ensures { λ r. ⌜ ((xs : List ℕ) (bs : List (List PxEntry)) (vs : List ℕ) (k : Mark) → Queues xs (now (queues .entry)) → Judges (queuesOf xs (now (queues .entry))) bs vs (λ m. enqueue m (l .0) k) r) ⌝ }
+    ensures { λ r. ⌜ r ≡ roomIf (ltb (getD (now (queues .entry)) (l .0) 0) queueRoom) ⌝ }
 {
     let at = l.0 as usize;
-    if (queues[at] as usize) < State::QUEUE_ROOM {
+    if queues[at] < (State::QUEUE_ROOM as u8) {
         Verdict::Allowed
     } else {
         Verdict::NoRoom
@@ -57,10 +58,10 @@ fn queue_room(queues: &[u8; 6], l: Loc) -> Verdict
 // Whether one more entry fits into the buffer of t.
 fn buffer_room(buffers: &[u8; 4], t: Thread) -> Verdict
     requires { ⌜ t .0 < threads ⌝ }
-    ensures { λ r. ⌜ ((qs : List (List Mark)) (xs vs : List ℕ) (e : PxEntry) → Buffers xs (now (buffers .entry)) → Judges qs (buffersOf xs (now (buffers .entry))) vs (λ m. join m (t .0) e) r) ⌝ }
+    ensures { λ r. ⌜ r ≡ roomIf (ltb (getD (now (buffers .entry)) (t .0) 0) bufferRoom) ⌝ }
 {
     let at = t.0 as usize;
-    if (buffers[at] as usize) < State::BUFFER_ROOM {
+    if buffers[at] < (State::BUFFER_ROOM as u8) {
         Verdict::Allowed
     } else {
         Verdict::NoRoom
@@ -145,8 +146,8 @@ fn may_go<'a>(queued: &'a [u16; 192], queues: &'a [u8; 6], t: Thread, e: Entry) 
 
 // Whether the entry e may overtake all that is older than its place i in t's buffer.
 fn may_pass(buffered: &[u16; 32], t: Thread, i: u8, e: Entry) -> bool
-    requires { ⌜ (t .0 < threads) × (i ≤ 8) ⌝ }
-    ensures { λ r. ⌜ ((p : Prog) (ns : List ℕ) → Buffers (now (buffered .entry)) ns → i ≤ length (bufferOf (now (buffered .entry)) ns (t .0)) → r ≡ mayLeave p (entryOf e) (take i (bufferOf (now (buffered .entry)) ns (t .0)))) ⌝ }
+    requires { ⌜ (t .0 < threads) × (i ≤ bufferRoom) ⌝ }
+    ensures { λ r. ⌜ ((p : Prog) → r ≡ mayLeave p (entryOf e) (entriesFrom (now (buffered .entry)) (t .0 * bufferRoom) i)) ⌝ }
 {
     match e {
         Entry::Fence => i == 0,

@@ -1,13 +1,12 @@
 // What a thread reads, and what a fence of it waits for.
 ghost use mathlib.Core.Path.{_≡_};
 ghost use mathlib.Core.List.{List, _∷_, []};
-ghost use Prim.Native.Nat.{ℕ, _<_, _≤_};
-ghost use lib.ListN.{length, take};
+ghost use Prim.Native.Nat.{ℕ, _*_, _<_, _≤_};
 ghost use Rattle.names.specs.Names.{threads, locations};
 ghost use Rattle.program.specs.Program.{Prog};
-ghost use Rattle.px86.specs.Machine.{Entry as PxEntry};
-ghost use Rattle.px86.specs.Step.{stored, written, reads, clear, allClear, fenced, blocks, passes};
+ghost use Rattle.px86.specs.Step.{bufferRoom, stored, written, reads, clear, allClear, blocks, passes};
 ghost use Rattle.state.specs.State.{markOf, entryIn, queuesOf, queueOf, buffersOf, bufferOf, Queues, Buffers, File, machineWith};
+ghost use Rattle.verdict.specs.Verdict.{fencedBy, entriesFrom};
 use names::Loc;
 use names::Thread;
 use state::Entry;
@@ -149,7 +148,7 @@ pub fn is_fenced<'a>(
 ) -> bool
     requires { ⌜ Queues (now queued) (now queues) ⌝ }
     requires { ⌜ t .0 < threads ⌝ }
-    ensures { λ r. ⌜ ((xs : List ℕ) (vs ns : List ℕ) (g : File) → Buffers xs (now (buffers .entry)) → r ≡ fenced (machineWith (queuesOf (now (queued .entry)) (now (queues .entry))) (buffersOf xs (now (buffers .entry))) vs ns g) (t .0)) ⌝ }
+    ensures { λ r. ⌜ r ≡ fencedBy (now (buffers .entry)) (queuesOf (now (queued .entry)) (now (queues .entry))) (t .0) ⌝ }
 {
     let at = t.0 as usize;
     if buffers[at] == 0 {
@@ -174,8 +173,8 @@ fn stops(l: Loc, x: u16) -> bool
 
 // Whether an fo of l may overtake all that is older than place i of the buffer of t.
 pub fn overtakes(buffered: &[u16; 32], t: Thread, l: Loc, i: u8) -> bool
-    requires { ⌜ (t .0 < threads) × (i ≤ 8) ⌝ }
-    ensures { λ r. ⌜ ((p : Prog) (ns : List ℕ) → Buffers (now (buffered .entry)) ns → i ≤ length (bufferOf (now (buffered .entry)) ns (t .0)) → r ≡ passes p (l .0) (take i (bufferOf (now (buffered .entry)) ns (t .0)))) ⌝ }
+    requires { ⌜ (t .0 < threads) × (i ≤ bufferRoom) ⌝ }
+    ensures { λ r. ⌜ ((p : Prog) → r ≡ passes p (l .0) (entriesFrom (now (buffered .entry)) (t .0 * bufferRoom) i)) ⌝ }
 {
     let at = t.0 as usize;
     let n = i as usize;
