@@ -4,3 +4,4 @@ pub mod Codes
 pub mod Moving
 pub mod Going
 pub mod Taking
+pub mod Unique
