@@ -166,7 +166,12 @@ module _ (p : Program) (list : List ℕ) where
   module _ (h : legal p ≡ true) where
     pub lists-sound : Lists list (progOf p) → Sound list
     lists-sound l =
-        record { of = progOf p; lists = l; fits = λ t k o below few e. found-fits p h t k o (sym (l .is t k below few) ∙ e) }
+        record {
+          of = progOf p;
+          lists = l;
+          fits = λ t k o below few e. found-fits p h t k o (sym (l .is t k below few) ∙ e);
+          ends = λ t below. l .is t 8 below (omega arith) ∙ found-past (threadAt p t) 8 (kept p h .short t);
+        }
 
     pub lists-prog : Sized p → Lists list (progOf p) → progIn list (p .threads) (p .locs) ≡ progOf p
     unfolding progOf
