@@ -39,3 +39,6 @@ abbrev pub barring : Verdict → Bool
 barring Allowed = false
 barring Barred = true
 barring NoRoom = false
+
+abbrev pub foundAt : ℕ → Verdict → Found
+foundAt c v = record { code = c; verdict = v }

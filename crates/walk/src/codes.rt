@@ -1,5 +1,4 @@
 // The first code that is not barred. Threads that are not there, places behind a buffer's last entry and empty queues are passed over.
-use names::Loc;
 ghost use mathlib.Core.Path.{_≡_};
 ghost use mathlib.Core.List.{List};
 ghost use Prim.Native.Nat.{ℕ, _≤_};
@@ -7,7 +6,8 @@ ghost use Rattle.names.specs.Names.{threads as mostThreads};
 ghost use Rattle.px86.specs.Runs.{codes};
 ghost use Rattle.listing.specs.Listing.{Sound};
 ghost use Rattle.state.specs.State.{Queues, Buffers, held, Valid};
-ghost use Rattle.walk.specs.Codes.{Beyond, First, barring};
+ghost use Rattle.walk.specs.Codes.{Beyond, First, barring, foundAt};
+use names::Loc;
 use names::Thread;
 use verdict::LEAVE;
 use verdict::LEAVE_END;
@@ -25,7 +25,7 @@ pub struct Found {
 }
 
 fn at_code(code: u8, verdict: Verdict) -> Found
-    ensures { λ r. ⌜ (r .code ≡ code) × (r .verdict ≡ verdict) ⌝ }
+    ensures { λ r. ⌜ r ≡ foundAt code verdict ⌝ }
 {
     Found { code, verdict }
 }
