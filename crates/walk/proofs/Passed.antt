@@ -6,7 +6,10 @@ use mathlib.Core.Bool.{true, false}
 use mathlib.Core.List.{List, []}
 use native.Mathlib.Decide.{decLt}
 use native.Mathlib.Omega.{arith}
+use lib.Dec.{ltb}
 use lib.ListN.{length, getD, getElem?}
+use borrow.Author.Tests.{lt-ltb, le-ltb}
+use Rattle.names.specs.Names.{pick}
 use Rattle.tables.proofs.Found.{found-past}
 use Rattle.program.specs.Program.{Prog}
 use Rattle.px86.specs.Step.{leaves, step}
@@ -21,7 +24,7 @@ use Rattle.verdict.specs.declared.Verdict.{Verdict}
 use Rattle.verdict.specs.declared.Verdict.the-variants.{Allowed, Barred, NoRoom}
 use Rattle.verdict.proofs.Judging.{is-barred, is-full, persists-none}
 use Rattle.machine.proofs.Allowed.{next-none}
-use Rattle.walk.specs.Codes.{Beyond, Upto, First, barring}
+use Rattle.walk.specs.Codes.{Beyond, Upto, First, barring, foundAt}
 use Rattle.walk.specs.declared.codes.Found.{Found}
 
 -- neither an allowed step nor one without room is barred
@@ -136,3 +139,41 @@ module _ (list : List ℕ) (s : State) (c : ℕ) (x : Found) (h : First list s c
 
   pub first-full : x .verdict ≡ NoRoom → (p : Prog) (g : File) → Lists list p → step p (machineOf s g) (x .code) ≡ full
   first-full e p g l = is-full _ (sym (h .is p g l (full-below e)) ∙ e)
+
+-- a code of each sort, by the verdict v on it: it is the first, or it is passed over
+module _ (list : List ℕ) (s : State) (c k : ℕ) (u : Upto list s c k) (v : Verdict) where
+  module _ (h : k < codes) (is : (p : Prog) (g : File) → Lists list p → v ≡ verdictOf (step p (machineOf s g) k)) where
+    pub turn-found : barring v ≡ false → First list s c (foundAt k v)
+    turn-found e = first-found list s c k u v h (barring-no v e) is
+
+    pub turn-passed : barring v ≡ true → Upto list s c (k + 1)
+    turn-passed e =
+        pass-on list s c k u (k + 1)
+        (pass-code list s k h (λ p g l. is-barred _ (sym (is p g l) ∙ barring-yes v e)))
+
+-- the codes up to k are barred, and where k is of none of the sorts before m, those up to m
+module _ (list : List ℕ) (s : State) (c k : ℕ) (u : Upto list s c k) where
+  pub pass-to-leave : (n : ℕ) → Valid s → Beyond list n → n ≤ k → Upto list s c (pick (ltb k 16) 16 k)
+  unfolding pick
+  pass-to-leave n v b h =
+      elim (decLt k 16) [
+        | yes q ↦ rw (lt-ltb k 16 q) (pass-on list s c k u 16 (pass-threads list s k n v b h q))
+        | no q ↦ rw (le-ltb k 16 (omega arith)) u
+      ]
+
+  pub pass-to-persist : 48 ≤ k → Upto list s c (pick (ltb k 64) 64 k)
+  unfolding pick
+  pass-to-persist h =
+      elim (decLt k 64) [
+        | yes q ↦ rw (lt-ltb k 64 q) (pass-on list s c k u 64 (pass-buffers list s k h q))
+        | no q ↦ rw (le-ltb k 64 (omega arith)) u
+      ]
+
+-- the greater of two codes
+pub greater : (k m : ℕ) → m ≤ codes → k ≤ codes → (m ≤ pick (ltb k m) m k) × (pick (ltb k m) m k ≤ codes)
+unfolding pick
+greater k m h j =
+    elim (decLt k m) [
+      | yes q ↦ rw (lt-ltb k m q) (omega arith, omega arith)
+      | no q ↦ rw (le-ltb k m (omega arith)) (omega arith, omega arith)
+    ]

@@ -2,7 +2,8 @@
 ghost use mathlib.Core.Path.{_≡_};
 ghost use mathlib.Core.List.{List};
 ghost use Prim.Native.Nat.{ℕ, _≤_};
-ghost use Rattle.names.specs.Names.{threads as mostThreads};
+ghost use lib.Dec.{ltb};
+ghost use Rattle.names.specs.Names.{pick, threads as mostThreads};
 ghost use Rattle.px86.specs.Runs.{codes};
 ghost use Rattle.listing.specs.Listing.{Sound};
 ghost use Rattle.state.specs.State.{Queues, Buffers, held, Valid};
@@ -39,6 +40,13 @@ fn is_barred(v: Verdict) -> bool
         Verdict::Barred => true,
         Verdict::NoRoom => false,
     }
+}
+
+// The code k, or the code m where that is greater.
+fn at_least(k: u8, m: u8) -> u8
+    ensures { λ r. ⌜ r ≡ pick (ltb k m) m k ⌝ }
+{
+    if k < m { m } else { k }
 }
 
 // The first queue from code c upward that is not empty.
@@ -84,10 +92,7 @@ fn next_leave<'a>(
             k += 8 - i;
         }
     }
-    if k < PERSIST {
-        k = PERSIST;
-    }
-    next_persist(queues, k)
+    next_persist(queues, at_least(k, PERSIST))
 }
 
 // The first code from c upward that is not barred, with its verdict, where the program has so many threads.
@@ -123,8 +128,5 @@ pub fn next_from<'a>(
         }
         k += 1;
     }
-    if k < LEAVE {
-        k = LEAVE;
-    }
-    next_leave(queued, queues, buffered, buffers, k)
+    next_leave(queued, queues, buffered, buffers, at_least(k, LEAVE))
 }
