@@ -54,11 +54,20 @@ unfolding threadsIn
 threads-length zero list = refl
 threads-length (suc n) list = ap suc (threads-length n (drop each list))
 
+-- the program that is asked about has the question's locations
+pub asked-locs : (list : List ℕ) (q : Asking) → asked q list .locs ≡ q .locs
+unfolding progIn
+asked-locs list q = refl
+
 -- an allowed step comes to a machine
 pub allowed-to : (x : Stepped) → verdictOf x ≡ Allowed → (m : Machine) × (x ≡ to m)
 allowed-to (to m) e = (m, refl)
 allowed-to barred e = let z : _≡_ {A = ℕ} 0 1 = cc in absurd (omega arith)
 allowed-to full e = let z : _≡_ {A = ℕ} 0 1 = cc in absurd (omega arith)
+
+-- between two codes: w and o hold a tally from which the codes from k upward come to what those from c upward come to from a
+abbrev pub Between : List ℕ → Asking → State → File → List ℕ → Tally → ℕ → ℕ → Walked → List ℕ → Type 0
+Between list q s g r a c k w o = (b : Tally) × Holds q w o b × (foldl (noted (asked q list) q) b (onward (asked q list) r (machineOf s g) k) ≡ foldl (noted (asked q list) q) a (onward (asked q list) r (machineOf s g) c))
 
 module _ (list : List ℕ) (q : Asking) (s : State) (g : File) (ok : Walks list q s g) where
   few : Few (asked q list)
@@ -98,14 +107,21 @@ module _ (list : List ℕ) (q : Asking) (s : State) (g : File) (ok : Walks list 
         → Holds q w o (foldl (noted (asked q list) q) a (runs (asked q list) r (machineOf s g)))
     visited w o h = subst (Holds q w o) (sym (fold-runs (asked q list) few s g (ok .state) (ok .file) (noted (asked q list) q) a r)) h
 
-    -- between two codes: w and o hold a tally from which the codes from k upward come to what those from c upward come to from a
-    abbrev pub Between : ℕ → ℕ → Walked → List ℕ → Type 0
-    Between c k w o = (b : Tally) × Holds q w o b × (foldl (noted (asked q list) q) b (onward (asked q list) r (machineOf s g) k) ≡ foldl (noted (asked q list) q) a (onward (asked q list) r (machineOf s g) c))
+    -- the same of what the visit has: the path that it goes on with, and the machine that its step comes to
+    pub arrived :
+        (w : Walked) (o on to′ : List ℕ) (m : Machine) → on ≡ to′ → m ≡ machineOf s g
+        → Holds q w o (foldl (noted (asked q list) q) (noted (asked q list) q a (run on (machineOf s g))) (onward (asked q list) on (machineOf s g) 0))
+        → r ≡ on → Holds q w o (foldl (noted (asked q list) q) a (runs (asked q list) to′ m))
+    arrived w o on to′ m e f h i =
+        subst (λ (x : List ℕ). Holds q w o (foldl (noted (asked q list) q) a (runs (asked q list) x m))) (i ∙ e)
+        (subst (λ (n : Machine). Holds q w o (foldl (noted (asked q list) q) a (runs (asked q list) r n))) (sym f)
+        (visited w o
+        (subst (λ (x : List ℕ). Holds q w o (foldl (noted (asked q list) q) (noted (asked q list) q a (run x (machineOf s g))) (onward (asked q list) x (machineOf s g) 0))) (sym i) h)))
 
-    pub at-first : (c : ℕ) (w : Walked) (o : List ℕ) → Holds q w o a → Between c c w o
+    pub at-first : (c : ℕ) (w : Walked) (o : List ℕ) → Holds q w o a → Between list q s g r a c c w o
     at-first c w o h = (a, h, refl)
 
-    module _ (c k : ℕ) (w : Walked) (o : List ℕ) (between : Between c k w o) where
+    module _ (c k : ℕ) (w : Walked) (o : List ℕ) (between : Between list q s g r a c k w o) where
       -- the answer is known: nothing more is noted
       pub stopped : goes (w .status) ≡ false → Holds q w o (foldl (noted (asked q list) q) a (onward (asked q list) r (machineOf s g) c))
       stopped e =
@@ -135,7 +151,7 @@ module _ (list : List ℕ) (q : Asking) (s : State) (g : File) (ok : Walks list 
             f .verdict ≡ Allowed → (v : Walked) (i back : List ℕ) → back ≡ r
             → ((b : Tally) (m : Machine) → Holds q w o b → step (asked q list) (machineOf s g) (f .code) ≡ to m
             → Holds q v i (foldl (noted (asked q list) q) b (runs (asked q list) (back ++ f .code ∷ []) m)))
-            → Between c (f .code + 1) v i
+            → Between list q s g r a c (f .code + 1) v i
         taken e v i back same visit =
             let x = allowed-to (step (asked q list) (machineOf s g) (f .code)) (first-allowed list s k f first e (asked q list) g (ok .lists)) in (
               foldl (noted (asked q list) q) (between .0) (runs (asked q list) (r ++ f .code ∷ []) (x .0)),

@@ -1,3 +1,17 @@
+use mathlib.Core.Path.{_≡_, refl, sym, _∙_}
+use mathlib.Core.List.{_++_, _∷_, []}
+use lib.ListN.{length, take, length-set}
+use native.Mathlib.Omega.{arith}
+use borrow.Author.Needs.{needs}
+use Prim.Native.Nat.{_+_, _-_, _*_, _≤_}
+use Rattle.px86.specs.Runs.{codes, work}
+use Rattle.px86.specs.Ask.{Tally}
+use Rattle.state.specs.State.{machineOf, held}
+use Rattle.walk.specs.Found.{Holds}
+use Rattle.walk.specs.Walk.{asked}
+use Rattle.walk.proofs.Passed.{allowed-below, first-allowed}
+use Rattle.walk.proofs.Holding.{is-going}
+use Rattle.walk.proofs.Cycling.{Between, at-first, stopped, passed, filled, taken, visited, has-work, walks-on, falls-on, comes-to, arrived, asked-locs, path-on, path-back}
 use Prim.Native.Nat.{ℕ, _<_}
 use borrow.Fn.Kinds.{In}
 use borrow.Fn.PlainCycle.{Measures, is, falls, and}
@@ -17,10 +31,10 @@ use Rattle.walk.proofs.cycle.+try_from+visit.{statement}
 use Rattle.walk.proofs.cycle.+try_from+visit.Tie.{close}
 
 abbrev μ-try-from : Measures 3 try-from-kinds.ps ℕ
-μ-try-from κs a = ?
+μ-try-from κs a = work (asked (a .1 .0) (a .0 .now)) (machineOf (held (a .1 .1 .0 .now) (a .1 .1 .1 .0 .now) (a .1 .1 .1 .1 .0 .now) (a .1 .1 .1 .1 .1 .0 .now) (a .1 .1 .1 .1 .1 .1 .0 .now) (a .1 .1 .1 .1 .1 .1 .1 .0 .now)) (a .1 .1 .1 .1 .1 .1 .1 .1 .0)) * 72 + (codes - (a .1 .1 .1 .1 .1 .1 .1 .1 .1 .0)) + 1
 
 abbrev μ-visit : Measures 3 visit-kinds.ps ℕ
-μ-visit κs a = ?
+μ-visit κs a = work (asked (a .1 .0) (a .0 .now)) (machineOf (held (a .1 .1 .0 .now) (a .1 .1 .1 .0 .now) (a .1 .1 .1 .1 .0 .now) (a .1 .1 .1 .1 .1 .0 .now) (a .1 .1 .1 .1 .1 .1 .0 .now) (a .1 .1 .1 .1 .1 .1 .1 .0 .now)) (a .1 .1 .1 .1 .1 .1 .1 .1 .0)) * 72 + (codes - (a .1 .1 .1 .1 .1 .1 .1 .1 .1 .0))
 
 abbrev try-from-at : ℕ → In 3 try-from-kinds.ps
 try-from-at t = and 3 try-from-kinds.ps (is 3 try-from-kinds.ps μ-try-from t) try-from.Pre
@@ -37,11 +51,11 @@ visit-below t = and 3 visit-kinds.ps (falls 3 visit-kinds.ps _<_ μ-visit t) vis
 
 abbrev try-from-Inv-loop : try-from-lts.InvT-loop
 try-from-Inv-loop list q queued queues buffered buffers places memory g c d path₀ out₀ v₀ k₀ path out v k =
-    ?
+    ((a : Tally) → Holds q v₀ out₀ a → Between list q (held queued queues buffered buffers places memory) g (take d path₀) a c k v out)
+    × (take d path ≡ take d path₀) × (length path ≡ length path₀) × (length out ≡ length out₀) × (k ≤ codes) × (c ≤ k)
 
 abbrev try-from-μ-loop : try-from-lts.MeasureT-loop
-try-from-μ-loop list q queued queues buffered buffers places memory g c d path₀ out₀ v₀ k₀ path out v k =
-    ?
+try-from-μ-loop list q queued queues buffered buffers places memory g c d path₀ out₀ v₀ k₀ path out v k = codes - k
 
 -- src/cycle.rt:127:5
 try-from-loop-holds : (t : ℕ) → try-from-lts.Need-loop-holds (
@@ -54,7 +68,7 @@ try-from-loop-holds : (t : ℕ) → try-from-lts.Need-loop-holds (
   visit-below t,
   visit.Post,
 ) (try-from-at t) try-from.Post try-from-Inv-loop try-from-μ-loop
-try-from-loop-holds t c = ?
+try-from-loop-holds t c = (λ a h. at-first _ _ _ _ (c .before .before .pre .1 .0) _ a _ _ _ h, refl, refl, refl, c .before .before .pre .1 .1 .1, omega arith)
 
 -- src/cycle.rt:129:12
 try-from-is-going-requires : (t : ℕ) → try-from-lts.Need-is-going-requires (
@@ -67,7 +81,7 @@ try-from-is-going-requires : (t : ℕ) → try-from-lts.Need-is-going-requires (
   visit-below t,
   visit.Post,
 ) (try-from-at t) try-from.Post try-from-Inv-loop try-from-μ-loop
-try-from-is-going-requires t c κs = ?
+try-from-is-going-requires t c κs = tt
 
 -- src/cycle.rt:130:13
 try-from-same-length : (t : ℕ) → try-from-lts.Need-same-length (
@@ -80,7 +94,7 @@ try-from-same-length : (t : ℕ) → try-from-lts.Need-same-length (
   visit-below t,
   visit.Post,
 ) (try-from-at t) try-from.Post try-from-Inv-loop try-from-μ-loop
-try-from-same-length t c = ?
+try-from-same-length t c = c .before .before .loop .inv .2
 
 -- src/cycle.rt:130:13
 try-from-same-length-2 : (t : ℕ) → try-from-lts.Need-same-length-2 (
@@ -93,7 +107,7 @@ try-from-same-length-2 : (t : ℕ) → try-from-lts.Need-same-length-2 (
   visit-below t,
   visit.Post,
 ) (try-from-at t) try-from.Post try-from-Inv-loop try-from-μ-loop
-try-from-same-length-2 t c = ?
+try-from-same-length-2 t c = c .before .before .loop .inv .3
 
 -- src/cycle.rt:130:13
 try-from-returns : (t : ℕ) → try-from-lts.Need-returns (
@@ -106,7 +120,10 @@ try-from-returns : (t : ℕ) → try-from-lts.Need-returns (
   visit-below t,
   visit.Post,
 ) (try-from-at t) try-from.Post try-from-Inv-loop try-from-μ-loop
-try-from-returns t c = ?
+try-from-returns t c = 
+    let l = c .before .before in
+    let x = l .before .before .before in
+    (λ a h. stopped _ _ _ _ (x .pre .1 .0) _ a _ _ _ _ (l .loop .inv .0 a h) (sym (c .before .is-going .ensures) ∙ c .if1 .left), l .loop .inv .1)
 
 -- src/cycle.rt:132:13
 try-from-next-from-requires : (t : ℕ) → try-from-lts.Need-next-from-requires (
@@ -119,7 +136,10 @@ try-from-next-from-requires : (t : ℕ) → try-from-lts.Need-next-from-requires
   visit-below t,
   visit.Post,
 ) (try-from-at t) try-from.Post try-from-Inv-loop try-from-μ-loop
-try-from-next-from-requires t c κs = ?
+try-from-next-from-requires t c κs = 
+    let l = c .before .before in
+    let x = l .before .before .before in
+    ((x .pre .1 .0 .sound, x .pre .1 .0 .state), (x .pre .1 .0 .few, x .pre .1 .0 .beyond, l .loop .inv .4))
 
 -- src/cycle.rt:147:17
 try-from-enum-told : (t : ℕ) → try-from-lts.Need-enum-told (
@@ -132,7 +152,7 @@ try-from-enum-told : (t : ℕ) → try-from-lts.Need-enum-told (
   visit-below t,
   visit.Post,
 ) (try-from-at t) try-from.Post try-from-Inv-loop try-from-μ-loop
-try-from-enum-told t c = ?
+try-from-enum-told t c = search needs
 
 -- src/cycle.rt:147:17
 try-from-same-length-3 : (t : ℕ) → try-from-lts.Need-same-length-3 (
@@ -145,7 +165,7 @@ try-from-same-length-3 : (t : ℕ) → try-from-lts.Need-same-length-3 (
   visit-below t,
   visit.Post,
 ) (try-from-at t) try-from.Post try-from-Inv-loop try-from-μ-loop
-try-from-same-length-3 t c = ?
+try-from-same-length-3 t c = c .before .before .before .before .before .loop .inv .2
 
 -- src/cycle.rt:147:17
 try-from-same-length-4 : (t : ℕ) → try-from-lts.Need-same-length-4 (
@@ -158,7 +178,7 @@ try-from-same-length-4 : (t : ℕ) → try-from-lts.Need-same-length-4 (
   visit-below t,
   visit.Post,
 ) (try-from-at t) try-from.Post try-from-Inv-loop try-from-μ-loop
-try-from-same-length-4 t c = ?
+try-from-same-length-4 t c = c .before .before .before .before .before .loop .inv .3
 
 -- src/cycle.rt:147:17
 try-from-returns-2 : (t : ℕ) → try-from-lts.Need-returns-2 (
@@ -171,7 +191,10 @@ try-from-returns-2 : (t : ℕ) → try-from-lts.Need-returns-2 (
   visit-below t,
   visit.Post,
 ) (try-from-at t) try-from.Post try-from-Inv-loop try-from-μ-loop
-try-from-returns-2 t c = ?
+try-from-returns-2 t c = 
+    let l = c .before .before .before .before .before in
+    let x = l .before .before .before in
+    (λ a h. passed _ _ _ _ (x .pre .1 .0) _ a _ _ _ _ (l .loop .inv .0 a h) _ (c .before .before .next-from .ensures) (c .enum-told .given .1), l .loop .inv .1)
 
 -- src/cycle.rt:150:17
 try-from-enum-told-2 : (t : ℕ) → try-from-lts.Need-enum-told-2 (
@@ -184,7 +207,7 @@ try-from-enum-told-2 : (t : ℕ) → try-from-lts.Need-enum-told-2 (
   visit-below t,
   visit.Post,
 ) (try-from-at t) try-from.Post try-from-Inv-loop try-from-μ-loop
-try-from-enum-told-2 t c = ?
+try-from-enum-told-2 t c = search needs
 
 -- src/cycle.rt:150:17
 try-from-filled-requires : (t : ℕ) → try-from-lts.Need-filled-requires (
@@ -197,7 +220,7 @@ try-from-filled-requires : (t : ℕ) → try-from-lts.Need-filled-requires (
   visit-below t,
   visit.Post,
 ) (try-from-at t) try-from.Post try-from-Inv-loop try-from-μ-loop
-try-from-filled-requires t c κs = ?
+try-from-filled-requires t c κs = tt
 
 -- src/cycle.rt:150:17
 try-from-same-length-5 : (t : ℕ) → try-from-lts.Need-same-length-5 (
@@ -210,7 +233,7 @@ try-from-same-length-5 : (t : ℕ) → try-from-lts.Need-same-length-5 (
   visit-below t,
   visit.Post,
 ) (try-from-at t) try-from.Post try-from-Inv-loop try-from-μ-loop
-try-from-same-length-5 t c = ?
+try-from-same-length-5 t c = c .before .before .before .before .before .before .loop .inv .2
 
 -- src/cycle.rt:150:17
 try-from-same-length-6 : (t : ℕ) → try-from-lts.Need-same-length-6 (
@@ -223,7 +246,7 @@ try-from-same-length-6 : (t : ℕ) → try-from-lts.Need-same-length-6 (
   visit-below t,
   visit.Post,
 ) (try-from-at t) try-from.Post try-from-Inv-loop try-from-μ-loop
-try-from-same-length-6 t c = ?
+try-from-same-length-6 t c = c .before .before .before .before .before .before .loop .inv .3
 
 -- src/cycle.rt:150:17
 try-from-returns-3 : (t : ℕ) → try-from-lts.Need-returns-3 (
@@ -236,7 +259,11 @@ try-from-returns-3 : (t : ℕ) → try-from-lts.Need-returns-3 (
   visit-below t,
   visit.Post,
 ) (try-from-at t) try-from.Post try-from-Inv-loop try-from-μ-loop
-try-from-returns-3 t c = ?
+try-from-returns-3 t c = 
+    let l = c .before .before .before .before .before .before in
+    let x = l .before .before .before in
+    let going = is-going _ (sym (c .before .before .before .before .before .is-going .ensures) ∙ c .before .before .before .before .if1 .taken) in
+    (λ a h. filled _ _ _ _ (x .pre .1 .0) _ a _ _ _ _ (l .loop .inv .0 a h) _ (c .before .before .before .next-from .ensures) going (c .filled .result) (c .filled .ensures) (c .before .enum-told2 .given .1), l .loop .inv .1)
 
 -- src/cycle.rt:166:21
 try-from-enum-told-3 : (t : ℕ) → try-from-lts.Need-enum-told-3 (
@@ -249,7 +276,7 @@ try-from-enum-told-3 : (t : ℕ) → try-from-lts.Need-enum-told-3 (
   visit-below t,
   visit.Post,
 ) (try-from-at t) try-from.Post try-from-Inv-loop try-from-μ-loop
-try-from-enum-told-3 t c = ?
+try-from-enum-told-3 t c = search needs
 
 -- src/cycle.rt:153:17
 try-from-visit-requires : (t : ℕ) → try-from-lts.Need-visit-requires (
@@ -262,7 +289,13 @@ try-from-visit-requires : (t : ℕ) → try-from-lts.Need-visit-requires (
   visit-below t,
   visit.Post,
 ) (try-from-at t) try-from.Post try-from-Inv-loop try-from-μ-loop
-try-from-visit-requires t c κs = ?
+try-from-visit-requires t c κs = 
+    let l = c .before .before .before .before .before .before .before in
+    let x = l .before .before .before in
+    let first = c .before .before .before .before .next-from .ensures in
+    let yes′ = c .before .before .enum-told3 .given .1 in
+    let below = allowed-below _ _ _ _ first yes′ in
+    (omega (arith, x .pre .0, below, first .upto .from, l .loop .inv .5), (x .pre .1 .0, (first-allowed _ _ _ _ first yes′, (omega (arith, x .pre .1 .1 .0, l .loop .inv .2), omega (arith, below)))))
 
 -- src/cycle.rt:169:17
 try-from-add-k : (t : ℕ) → try-from-lts.Need-add-k (
@@ -275,7 +308,9 @@ try-from-add-k : (t : ℕ) → try-from-lts.Need-add-k (
   visit-below t,
   visit.Post,
 ) (try-from-at t) try-from.Post try-from-Inv-loop try-from-μ-loop
-try-from-add-k t c = ?
+try-from-add-k t c = 
+    let first = c .before .before .before .before .before .before .before .before .before .next-from .ensures in
+    omega (arith, allowed-below _ _ _ _ first (c .before .before .before .before .before .before .before .enum-told3 .given .1))
 
 -- src/cycle.rt:127:5
 try-from-loop-less : (t : ℕ) → try-from-lts.Need-loop-less (
@@ -288,7 +323,9 @@ try-from-loop-less : (t : ℕ) → try-from-lts.Need-loop-less (
   visit-below t,
   visit.Post,
 ) (try-from-at t) try-from.Post try-from-Inv-loop try-from-μ-loop
-try-from-loop-less t c = ?
+try-from-loop-less t c = 
+    let first = c .before .before .before .before .before .before .before .before .before .next-from .ensures in
+    omega (arith, allowed-below _ _ _ _ first (c .before .before .before .before .before .before .before .enum-told3 .given .1), first .upto .from)
 
 -- src/cycle.rt:127:5
 try-from-loop-again : (t : ℕ) → try-from-lts.Need-loop-again (
@@ -301,7 +338,13 @@ try-from-loop-again : (t : ℕ) → try-from-lts.Need-loop-again (
   visit-below t,
   visit.Post,
 ) (try-from-at t) try-from.Post try-from-Inv-loop try-from-μ-loop
-try-from-loop-again t c = ?
+try-from-loop-again t c = 
+    let l = c .before .before .before .before .before .before .before .before .before .before .before .before in
+    let x = l .before .before .before in
+    let first = c .before .before .before .before .before .before .before .before .before .next-from .ensures in
+    let yes′ = c .before .before .before .before .before .before .before .enum-told3 .given .1 in
+    let v = c .before .before .before .before in
+    (λ a h. taken _ _ _ _ (x .pre .1 .0) _ a _ _ _ _ (l .loop .inv .0 a h) _ first yes′ _ _ _ (l .loop .inv .1) (v .visit .ensures .0), v .visit .ensures .1 ∙ l .loop .inv .1, v .visit .kept .1 .1 .1 .1 .1 .1 .1 .1 .1 .1 .1 .1 .0 ∙ l .loop .inv .2, v .visit .kept .1 .1 .1 .1 .1 .1 .1 .1 .1 .1 .1 .1 .1 .0 ∙ l .loop .inv .3, omega (arith, allowed-below _ _ _ _ first yes′), omega (arith, l .loop .inv .5, first .upto .from))
 
 -- src/cycle.rt:71:9
 visit-step-requires : (t : ℕ) → visit-lts.Need-step-requires (
@@ -314,7 +357,9 @@ visit-step-requires : (t : ℕ) → visit-lts.Need-step-requires (
   try-from-below t,
   try-from.Post,
 ) (visit-at t) visit.Post
-visit-step-requires t c κs = ?
+visit-step-requires t c κs = 
+    let x = c .before .before .before .before .before .before .before .before .before .before .before .before .before .before in
+    ((x .pre .1 .0 .sound, x .pre .1 .0 .state), x .pre .1 .1 .0)
 
 -- src/cycle.rt:82:9
 visit-loaded-requires : (t : ℕ) → visit-lts.Need-loaded-requires (
@@ -327,7 +372,7 @@ visit-loaded-requires : (t : ℕ) → visit-lts.Need-loaded-requires (
   try-from-below t,
   try-from.Post,
 ) (visit-at t) visit.Post
-visit-loaded-requires t c κs = ?
+visit-loaded-requires t c κs = c .step .ensures _ (c .before .before .before .before .before .before .before .before .before .before .before .before .before .before .before .pre .1 .0 .lists) .load-in
 
 -- src/cycle.rt:83:5
 visit-slice-write-path : (t : ℕ) → visit-lts.Need-slice-write-path (
@@ -340,7 +385,9 @@ visit-slice-write-path : (t : ℕ) → visit-lts.Need-slice-write-path (
   try-from-below t,
   try-from.Post,
 ) (visit-at t) visit.Post
-visit-slice-write-path t c = ?
+visit-slice-write-path t c = 
+    let x = c .before .before .before .before .before .before .before .before .before .before .before .before .before .before .before .before in
+    omega (arith, x .pre .1 .1 .1 .0, has-work _ _ _ _ (x .pre .1 .0) _ (x .pre .1 .1 .0 _ _ (x .pre .1 .0 .lists)))
 
 -- src/cycle.rt:84:38
 visit-add-note : (t : ℕ) → visit-lts.Need-add-note (
@@ -353,7 +400,9 @@ visit-add-note : (t : ℕ) → visit-lts.Need-add-note (
   try-from-below t,
   try-from.Post,
 ) (visit-at t) visit.Post
-visit-add-note t c = ?
+visit-add-note t c = 
+    let x = c .before .before .before .before .before .before .before .before .before .before .before .before .before .before .before .before .before in
+    omega (arith, x .pre .1 .1 .1 .0, has-work _ _ _ _ (x .pre .1 .0) _ (x .pre .1 .1 .0 _ _ (x .pre .1 .0 .lists)), x .good .1 .1 .1 .1 .1 .1 .1 .1 .1 .1 .1 .1 .0 .0)
 
 -- src/cycle.rt:84:9
 visit-note-requires : (t : ℕ) → visit-lts.Need-note-requires (
@@ -366,7 +415,9 @@ visit-note-requires : (t : ℕ) → visit-lts.Need-note-requires (
   try-from-below t,
   try-from.Post,
 ) (visit-at t) visit.Post
-visit-note-requires t c κs = ?
+visit-note-requires t c κs = 
+    let x = c .before .before .before .before .before .before .before .before .before .before .before .before .before .before .before .before .before .before in
+    (x .pre .1 .0 .asks, simp length-set (omega (arith, x .pre .1 .1 .1 .0, has-work _ _ _ _ (x .pre .1 .0) _ (x .pre .1 .1 .0 _ _ (x .pre .1 .0 .lists)))))
 
 -- src/cycle.rt:96:9
 visit-add-try-from : (t : ℕ) → visit-lts.Need-add-try-from (
@@ -379,7 +430,9 @@ visit-add-try-from : (t : ℕ) → visit-lts.Need-add-try-from (
   try-from-below t,
   try-from.Post,
 ) (visit-at t) visit.Post
-visit-add-try-from t c = ?
+visit-add-try-from t c = 
+    let x = c .before .before .before .before .before .before .before .before .before .before .before .before .before .before .before .before .before .before .before .before .before .before .before .before .before .before .before in
+    omega (arith, x .pre .1 .1 .1 .0, has-work _ _ _ _ (x .pre .1 .0) _ (x .pre .1 .1 .0 _ _ (x .pre .1 .0 .lists)), x .good .1 .1 .1 .1 .1 .1 .1 .1 .1 .1 .1 .1 .0 .0)
 
 -- src/cycle.rt:85:5
 visit-try-from-requires : (t : ℕ) → visit-lts.Need-try-from-requires (
@@ -392,7 +445,11 @@ visit-try-from-requires : (t : ℕ) → visit-lts.Need-try-from-requires (
   try-from-below t,
   try-from.Post,
 ) (visit-at t) visit.Post
-visit-try-from-requires t c κs = ?
+visit-try-from-requires t c κs = 
+    let x = c .before .before .before .before .before .before .before .before .before .before .before .before .before .before .before .before .before .before .before .before .before .before .before .before .before .before .before .before .before in
+    let t = c .before .before .before .before .before .before .before .before .before .before .before .before .before .before .step .ensures _ (x .pre .1 .0 .lists) in
+    let less = falls-on _ _ _ _ (x .pre .1 .0) _ _ _ t _ (c .before .before .before .before .before .before .before .before .before .before .before .before .before .loaded .ensures) in
+    (omega (arith, x .pre .0, less), (walks-on _ _ _ _ (x .pre .1 .0) _ _ _ t _ (c .before .before .before .before .before .before .before .before .before .before .before .before .before .loaded .ensures), (simp length-set (omega (arith, x .pre .1 .1 .1 .0, less)), omega arith)))
 
 -- src/cycle.rt:43:1
 visit-same-length : (t : ℕ) → visit-lts.Need-same-length (
@@ -405,7 +462,7 @@ visit-same-length : (t : ℕ) → visit-lts.Need-same-length (
   try-from-below t,
   try-from.Post,
 ) (visit-at t) visit.Post
-visit-same-length t c = ?
+visit-same-length t c = c .before .before .before .before .try-from .kept .1 .1 .1 .1 .1 .1 .1 .1 .1 .1 .1 .1 .0 ∙ simp length-set
 
 -- src/cycle.rt:43:1
 visit-same-length-2 : (t : ℕ) → visit-lts.Need-same-length-2 (
@@ -418,7 +475,7 @@ visit-same-length-2 : (t : ℕ) → visit-lts.Need-same-length-2 (
   try-from-below t,
   try-from.Post,
 ) (visit-at t) visit.Post
-visit-same-length-2 t c = ?
+visit-same-length-2 t c = c .before .before .before .before .try-from .kept .1 .1 .1 .1 .1 .1 .1 .1 .1 .1 .1 .1 .1 .0 ∙ c .before .before .before .before .before .before .before .before .before .before .before .before .before .before .before .note .kept .1 .1 .1 .1 .1 .0
 
 -- src/cycle.rt:43:1
 visit-returns : (t : ℕ) → visit-lts.Need-returns (
@@ -431,7 +488,14 @@ visit-returns : (t : ℕ) → visit-lts.Need-returns (
   try-from-below t,
   try-from.Post,
 ) (visit-at t) visit.Post
-visit-returns t c = ?
+visit-returns t c = 
+    let x = c .before .before .before .before .before .before .before .before .before .before .before .before .before .before .before .before .before .before .before .before .before .before .before .before .before .before .before .before .before .before .before .before .before .before in
+    let ok = x .pre .1 .0 in
+    let t = c .before .before .before .before .before .before .before .before .before .before .before .before .before .before .before .before .before .before .before .step .ensures _ (ok .lists) in
+    let e = c .before .before .before .before .before .before .before .before .before .before .before .before .before .before .before .before .before .before .loaded .ensures in
+    let on = walks-on _ _ _ _ ok _ _ _ t _ e in
+    let room : x .args .d < length (x .args .path .now) = omega (arith, x .pre .1 .1 .1 .0, has-work _ _ _ _ (x .pre .1 .0) _ (x .pre .1 .1 .0 _ _ (x .pre .1 .0 .lists))) in
+    (λ a m h f. arrived _ _ _ _ on _ a _ _ _ _ m (path-on (x .args .path .now) (x .args .d) _ room) (comes-to _ _ _ _ ok _ _ _ t _ e m f) (c .before .before .before .before .try-from .ensures .0 _ (c .before .before .before .before .before .before .before .before .before .before .before .before .before .before .before .note .ensures _ _ a (asked-locs (x .args .list .now) (x .args .q)) refl h)) refl, path-back (x .args .path .now) _ (x .args .d) _ room (c .before .before .before .before .try-from .ensures .1))
 
 pub +try-from+visit-spec : {M : Type 1} → statement M
 +try-from+visit-spec = close μ-try-from μ-visit (λ t. try-from-lts.spec (
