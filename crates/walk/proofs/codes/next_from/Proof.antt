@@ -60,10 +60,12 @@ loop-again c =
     let i = j .before in
     let l = i .before in
     let low : l .loop .k < codes = omega (arith, under i) in
-    let e = sym (b .is-barred .ensures) ∙ not-false (b .is-barred .result) (c .if1 .left) in
-    (omega (arith, l .loop .inv .0), omega (arith, under i),
-    turn-passed _ _ _ _ (l .loop .inv .2) _ low
-    (λ p g n. j .may-step .ensures p g n ∙ sym (ap verdictOf (step-thread p (machineOf (held _ _ _ _ _ _) g) _ (under i)))) e)
+    let e = sym (b .is-barred .ensures) ∙ not-false (b .is-barred .result) (c .if1 .left) in (
+      omega (arith, l .loop .inv .0),
+      omega (arith, under i),
+      turn-passed _ _ _ _ (l .loop .inv .2) _ low
+          (λ p g n. j .may-step .ensures p g n ∙ sym (ap verdictOf (step-thread p (machineOf (held _ _ _ _ _ _) g) _ (under i)))) e,
+    )
 
 at-least-requires : tie.Need-at-least-requires Inv-loop μ-loop
 at-least-requires c κs = tt

@@ -78,12 +78,14 @@ loop-again c =
     let i = j .before .before .before in
     let l = i .before in
     let under : l .loop .k < codes = omega (arith, i .loop-test .taken) in
-    let e = sym (b .is-barred .ensures) ∙ not-false (b .is-barred .result) (c .if2 .left) in
-    (omega (arith, l .loop .inv .0), omega (arith, i .loop-test .taken),
-    λ list ps vs.
-    turn-passed list (held _ _ _ _ ps vs) _ _ (l .loop .inv .2 list ps vs) _ under
-    (λ p g n. j .may-leave .ensures p vs ps g
-    ∙ sym (ap verdictOf (step-leave p (machineOf (held _ _ _ _ ps vs) g) _ (low i) (i .loop-test .taken)))) e)
+    let e = sym (b .is-barred .ensures) ∙ not-false (b .is-barred .result) (c .if2 .left) in (
+      omega (arith, l .loop .inv .0),
+      omega (arith, i .loop-test .taken),
+      λ list ps vs.
+          turn-passed list (held _ _ _ _ ps vs) _ _ (l .loop .inv .2 list ps vs) _ under
+          (λ p g n. j .may-leave .ensures p vs ps g
+          ∙ sym (ap verdictOf (step-leave p (machineOf (held _ _ _ _ ps vs) g) _ (low i) (i .loop-test .taken)))) e,
+    )
 
 sub-k : tie.Need-sub-k Inv-loop μ-loop
 sub-k c = omega arith
@@ -100,11 +102,13 @@ loop-again-2 c =
     let l = i .before in
     let s = l .before in
     let t : (l .loop .k - 16) / 8 < 4 = omega (arith, i .loop-test .taken) in
-    let long = buffer-count _ _ (s .pre .1 .0) ((l .loop .k - 16) / 8) t in
-    (omega (arith, l .loop .inv .0), omega (arith, i .loop-test .taken),
-    λ list ps vs.
-    pass-on list (held _ _ _ _ ps vs) _ _ (l .loop .inv .2 list ps vs) _
-    (pass-buffer list (held _ _ _ _ ps vs) _ (low i) (i .loop-test .taken) (omega (arith, long, c .if1 .left))))
+    let long = buffer-count _ _ (s .pre .1 .0) ((l .loop .k - 16) / 8) t in (
+      omega (arith, l .loop .inv .0),
+      omega (arith, i .loop-test .taken),
+      λ list ps vs.
+          pass-on list (held _ _ _ _ ps vs) _ _ (l .loop .inv .2 list ps vs) _
+          (pass-buffer list (held _ _ _ _ ps vs) _ (low i) (i .loop-test .taken) (omega (arith, long, c .if1 .left))),
+    )
 
 at-least-requires : tie.Need-at-least-requires Inv-loop μ-loop
 at-least-requires c κs = tt

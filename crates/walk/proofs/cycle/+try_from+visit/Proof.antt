@@ -120,7 +120,7 @@ try-from-returns : (t : ℕ) → try-from-lts.Need-returns (
   visit-below t,
   visit.Post,
 ) (try-from-at t) try-from.Post try-from-Inv-loop try-from-μ-loop
-try-from-returns t c = 
+try-from-returns t c =
     let l = c .before .before in
     let x = l .before .before .before in
     (λ a h. stopped _ _ _ _ (x .pre .1 .0) _ a _ _ _ _ (l .loop .inv .0 a h) (sym (c .before .is-going .ensures) ∙ c .if1 .left), l .loop .inv .1)
@@ -136,7 +136,7 @@ try-from-next-from-requires : (t : ℕ) → try-from-lts.Need-next-from-requires
   visit-below t,
   visit.Post,
 ) (try-from-at t) try-from.Post try-from-Inv-loop try-from-μ-loop
-try-from-next-from-requires t c κs = 
+try-from-next-from-requires t c κs =
     let l = c .before .before in
     let x = l .before .before .before in
     ((x .pre .1 .0 .sound, x .pre .1 .0 .state), (x .pre .1 .0 .few, x .pre .1 .0 .beyond, l .loop .inv .4))
@@ -191,7 +191,7 @@ try-from-returns-2 : (t : ℕ) → try-from-lts.Need-returns-2 (
   visit-below t,
   visit.Post,
 ) (try-from-at t) try-from.Post try-from-Inv-loop try-from-μ-loop
-try-from-returns-2 t c = 
+try-from-returns-2 t c =
     let l = c .before .before .before .before .before in
     let x = l .before .before .before in
     (λ a h. passed _ _ _ _ (x .pre .1 .0) _ a _ _ _ _ (l .loop .inv .0 a h) _ (c .before .before .next-from .ensures) (c .enum-told .given .1), l .loop .inv .1)
@@ -259,7 +259,7 @@ try-from-returns-3 : (t : ℕ) → try-from-lts.Need-returns-3 (
   visit-below t,
   visit.Post,
 ) (try-from-at t) try-from.Post try-from-Inv-loop try-from-μ-loop
-try-from-returns-3 t c = 
+try-from-returns-3 t c =
     let l = c .before .before .before .before .before .before in
     let x = l .before .before .before in
     let going = is-going _ (sym (c .before .before .before .before .before .is-going .ensures) ∙ c .before .before .before .before .if1 .taken) in
@@ -289,7 +289,7 @@ try-from-visit-requires : (t : ℕ) → try-from-lts.Need-visit-requires (
   visit-below t,
   visit.Post,
 ) (try-from-at t) try-from.Post try-from-Inv-loop try-from-μ-loop
-try-from-visit-requires t c κs = 
+try-from-visit-requires t c κs =
     let l = c .before .before .before .before .before .before .before in
     let x = l .before .before .before in
     let first = c .before .before .before .before .next-from .ensures in
@@ -308,7 +308,7 @@ try-from-add-k : (t : ℕ) → try-from-lts.Need-add-k (
   visit-below t,
   visit.Post,
 ) (try-from-at t) try-from.Post try-from-Inv-loop try-from-μ-loop
-try-from-add-k t c = 
+try-from-add-k t c =
     let first = c .before .before .before .before .before .before .before .before .before .next-from .ensures in
     omega (arith, allowed-below _ _ _ _ first (c .before .before .before .before .before .before .before .enum-told3 .given .1))
 
@@ -323,7 +323,7 @@ try-from-loop-less : (t : ℕ) → try-from-lts.Need-loop-less (
   visit-below t,
   visit.Post,
 ) (try-from-at t) try-from.Post try-from-Inv-loop try-from-μ-loop
-try-from-loop-less t c = 
+try-from-loop-less t c =
     let first = c .before .before .before .before .before .before .before .before .before .next-from .ensures in
     omega (arith, allowed-below _ _ _ _ first (c .before .before .before .before .before .before .before .enum-told3 .given .1), first .upto .from)
 
@@ -338,7 +338,7 @@ try-from-loop-again : (t : ℕ) → try-from-lts.Need-loop-again (
   visit-below t,
   visit.Post,
 ) (try-from-at t) try-from.Post try-from-Inv-loop try-from-μ-loop
-try-from-loop-again t c = 
+try-from-loop-again t c =
     let l = c .before .before .before .before .before .before .before .before .before .before .before .before in
     let x = l .before .before .before in
     let first = c .before .before .before .before .before .before .before .before .before .next-from .ensures in
@@ -357,7 +357,7 @@ visit-step-requires : (t : ℕ) → visit-lts.Need-step-requires (
   try-from-below t,
   try-from.Post,
 ) (visit-at t) visit.Post
-visit-step-requires t c κs = 
+visit-step-requires t c κs =
     let x = c .before .before .before .before .before .before .before .before .before .before .before .before .before .before in
     ((x .pre .1 .0 .sound, x .pre .1 .0 .state), x .pre .1 .1 .0)
 
@@ -385,7 +385,7 @@ visit-slice-write-path : (t : ℕ) → visit-lts.Need-slice-write-path (
   try-from-below t,
   try-from.Post,
 ) (visit-at t) visit.Post
-visit-slice-write-path t c = 
+visit-slice-write-path t c =
     let x = c .before .before .before .before .before .before .before .before .before .before .before .before .before .before .before .before in
     omega (arith, x .pre .1 .1 .1 .0, has-work _ _ _ _ (x .pre .1 .0) _ (x .pre .1 .1 .0 _ _ (x .pre .1 .0 .lists)))
 
@@ -400,7 +400,7 @@ visit-add-note : (t : ℕ) → visit-lts.Need-add-note (
   try-from-below t,
   try-from.Post,
 ) (visit-at t) visit.Post
-visit-add-note t c = 
+visit-add-note t c =
     let x = c .before .before .before .before .before .before .before .before .before .before .before .before .before .before .before .before .before in
     omega (arith, x .pre .1 .1 .1 .0, has-work _ _ _ _ (x .pre .1 .0) _ (x .pre .1 .1 .0 _ _ (x .pre .1 .0 .lists)), x .good .1 .1 .1 .1 .1 .1 .1 .1 .1 .1 .1 .1 .0 .0)
 
@@ -415,7 +415,7 @@ visit-note-requires : (t : ℕ) → visit-lts.Need-note-requires (
   try-from-below t,
   try-from.Post,
 ) (visit-at t) visit.Post
-visit-note-requires t c κs = 
+visit-note-requires t c κs =
     let x = c .before .before .before .before .before .before .before .before .before .before .before .before .before .before .before .before .before .before in
     (x .pre .1 .0 .asks, simp length-set (omega (arith, x .pre .1 .1 .1 .0, has-work _ _ _ _ (x .pre .1 .0) _ (x .pre .1 .1 .0 _ _ (x .pre .1 .0 .lists)))))
 
@@ -430,7 +430,7 @@ visit-add-try-from : (t : ℕ) → visit-lts.Need-add-try-from (
   try-from-below t,
   try-from.Post,
 ) (visit-at t) visit.Post
-visit-add-try-from t c = 
+visit-add-try-from t c =
     let x = c .before .before .before .before .before .before .before .before .before .before .before .before .before .before .before .before .before .before .before .before .before .before .before .before .before .before .before in
     omega (arith, x .pre .1 .1 .1 .0, has-work _ _ _ _ (x .pre .1 .0) _ (x .pre .1 .1 .0 _ _ (x .pre .1 .0 .lists)), x .good .1 .1 .1 .1 .1 .1 .1 .1 .1 .1 .1 .1 .0 .0)
 
@@ -445,7 +445,7 @@ visit-try-from-requires : (t : ℕ) → visit-lts.Need-try-from-requires (
   try-from-below t,
   try-from.Post,
 ) (visit-at t) visit.Post
-visit-try-from-requires t c κs = 
+visit-try-from-requires t c κs =
     let x = c .before .before .before .before .before .before .before .before .before .before .before .before .before .before .before .before .before .before .before .before .before .before .before .before .before .before .before .before .before in
     let t = c .before .before .before .before .before .before .before .before .before .before .before .before .before .before .step .ensures _ (x .pre .1 .0 .lists) in
     let less = falls-on _ _ _ _ (x .pre .1 .0) _ _ _ t _ (c .before .before .before .before .before .before .before .before .before .before .before .before .before .loaded .ensures) in
@@ -488,7 +488,7 @@ visit-returns : (t : ℕ) → visit-lts.Need-returns (
   try-from-below t,
   try-from.Post,
 ) (visit-at t) visit.Post
-visit-returns t c = 
+visit-returns t c =
     let x = c .before .before .before .before .before .before .before .before .before .before .before .before .before .before .before .before .before .before .before .before .before .before .before .before .before .before .before .before .before .before .before .before .before .before in
     let ok = x .pre .1 .0 in
     let t = c .before .before .before .before .before .before .before .before .before .before .before .before .before .before .before .before .before .before .before .step .ensures _ (ok .lists) in
