@@ -1,12 +1,12 @@
 -- A listing and its program: what a loop that writes the numbers one by one has written, that the program is read off the listing again,
 -- and that there is one listing of a program.
 -- Assumes nothing.
-use Prim.Native.Nat.{ℕ, zero, suc, _+_, _*_, _/_, _%_, _≤_, _<_}
+use Prim.Native.Nat.{ℕ, suc, _+_, _*_, _/_, _%_, _≤_, _<_}
 use mathlib.Core.Path.{_≡_, refl, ap, sym, _∙_}
 use mathlib.Core.Bool.{Bool, true, false}
 use mathlib.Core.Option.{Option, none, some}
 use mathlib.Core.List.{List, [], _∷_}
-use native.Mathlib.Nat.{zero-mul, zero-add, div-add-mod'}
+use native.Mathlib.Nat.{div-add-mod'}
 use native.Mathlib.Omega.{arith}
 use lib.Dec.{eqb}
 use lib.Arith.{digits-div, digits-mod}
@@ -15,10 +15,10 @@ use lib.Seq.{getD-take, getD-drop, getD-set-same, getD-set-other, ext-getD}
 use borrow.Author.Tests.{eqb-true, eqb-false}
 use Rattle.tables.proofs.Closed.{all-replicate}
 use Rattle.tables.proofs.Found.{found-past}
-use Rattle.names.specs.Names.{pick, threads, locations}
+use Rattle.names.specs.Names.{pick, threads}
 use Rattle.program.specs.Program.{Prog, progOf, mostOps}
 use Rattle.program.specs.Legal.{legal}
-use Rattle.program.specs.Kept.{threadAt, Sized, Kept}
+use Rattle.program.specs.Kept.{threadAt, Sized}
 use Rattle.program.specs.declared.Op.{Op}
 use Rattle.program.specs.declared.Program.{Program}
 use Rattle.program.proofs.Legal.{kept, found-fits, legal-width}

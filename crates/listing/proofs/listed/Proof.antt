@@ -3,11 +3,10 @@
 use Prim.Native.Nat.{_+_, _*_, _-_, _≤_}
 use mathlib.Core.Path.{_≡_, sym, _∙_, ap}
 use native.Mathlib.Omega.{arith}
-use lib.ListN.{length}
 use Rattle.tables.proofs.Rows.{length-mapped}
 use Rattle.program.specs.Kept.{Sized}
 use Rattle.listing.specs.Listing.{numberOf}
-use Rattle.listing.proofs.Lists.{Written, listedAt, listed-at, written-none, written-on, written-gap, written-lists, written-exact, lists-sound, lists-prog, ninth}
+use Rattle.listing.proofs.Lists.{Written, listed-at, written-none, written-on, written-gap, written-lists, written-exact, lists-sound, lists-prog, ninth}
 use borrow.Author.Needs.{needs}
 use Rattle.listing.proofs.listed.Statement.{statement}
 use Rattle.listing.proofs.listed.Tie as tie
@@ -94,4 +93,26 @@ returns c = let l = c .before .loop in
     (lists, (lists-sound p (l .list) (b .pre) lists, (lists-prog p (l .list) (b .pre) s lists, written-exact p (l .list) (l .t * 9) (l .inv .1) all)))
 
 pub listed-spec : {M : Type 1} → statement M
-listed-spec = tie.close (tie.spec Inv-loop2 μ-loop2 Inv-loop μ-loop loop-holds loop2-holds number-at-requires cast-list mul-list cast-list-2 add-list mul-list-2 array-write-list add-k loop2-less loop2-again add-t loop-less loop-again returns)
+listed-spec =
+    tie.close
+    (tie.spec
+    Inv-loop2
+    μ-loop2
+    Inv-loop
+    μ-loop
+    loop-holds
+    loop2-holds
+    number-at-requires
+    cast-list
+    mul-list
+    cast-list-2
+    add-list
+    mul-list-2
+    array-write-list
+    add-k
+    loop2-less
+    loop2-again
+    add-t
+    loop-less
+    loop-again
+    returns)

@@ -1,13 +1,8 @@
 -- `listing::number_at` meets its contract: an instruction of a legal program names what is there. Assumes nothing.
-use Prim.Native.Nat.{ℕ}
-use mathlib.Core.Path.{_≡_, refl, sym, ap, _∙_}
-use mathlib.Core.Option.{none, some}
-use lib.ListN.{getElem?}
-use Rattle.program.specs.Kept.{threadAt}
+use mathlib.Core.Path.{sym, ap, _∙_}
 use Rattle.program.proofs.Threads.{found-some, past-none}
 use Rattle.program.proofs.Legal.{found-fits}
-use Rattle.listing.specs.Listing.{opIn, numberOf, ofKind}
-use Rattle.names.specs.Names.{pick}
+use Rattle.listing.specs.Listing.{numberOf}
 use Rattle.listing.proofs.Ops.{named}
 use Rattle.listing.proofs.Lists.{stands-none}
 use borrow.Author.Needs.{needs}

@@ -47,7 +47,22 @@ element-write-buffers : tie.Need-element-write-buffers
 element-write-buffers c = search needs
 
 returns : tie.Need-returns
-returns c = let b = c .before .before .before .before in buffer-remove-is (b .args .buffered .now) (b .args .buffers .now) (b .pre .0) (b .args .t .0) (b .pre .1 .0) (c .built-without .result) (b .args .i) (c .built-without .ensures) (held b .0)
+returns c =
+    let b = c .before .before .before .before in
+    buffer-remove-is (b .args .buffered .now) (b .args .buffers .now) (b .pre .0) (b .args .t .0) (b .pre .1 .0) (c .built-without .result) (b .args .i) (c .built-without .ensures) (held b .0)
 
 pub buffer-remove-spec : {M : Type 1} → statement M
-buffer-remove-spec = tie.close (tie.spec cast-at element-copy-out-n mul-built-without add-built-without sub-built-without sub-built-without-2 cast-built-without built-without-requires sub-buffers element-write-buffers returns)
+buffer-remove-spec =
+    tie.close
+    (tie.spec
+    cast-at
+    element-copy-out-n
+    mul-built-without
+    add-built-without
+    sub-built-without
+    sub-built-without-2
+    cast-built-without
+    built-without-requires
+    sub-buffers
+    element-write-buffers
+    returns)

@@ -64,4 +64,21 @@ returns : tie.Need-returns Inv-loop μ-loop
 returns c = let l = c .before .loop in closed-end 0 (l .ys) (l .a) (l .left) (c .loop-test .left) ∙ l .inv .3
 
 pub built-without-spec : {M : Type 1} → statement M
-built-without-spec = tie.close (tie.spec Inv-loop μ-loop loop-holds add-ys mul-ys array-read-ys mul-ys-2 array-write-ys add-a sub-left loop-less loop-again mul-ys-3 array-write-ys-2 returns)
+built-without-spec =
+    tie.close
+    (tie.spec
+    Inv-loop
+    μ-loop
+    loop-holds
+    add-ys
+    mul-ys
+    array-read-ys
+    mul-ys-2
+    array-write-ys
+    add-a
+    sub-left
+    loop-less
+    loop-again
+    mul-ys-3
+    array-write-ys-2
+    returns)
