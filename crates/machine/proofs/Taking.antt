@@ -3,8 +3,7 @@
 use Prim.Native.Nat.{ℕ, _<_, _≤_}
 use mathlib.Core.Path.{_≡_, ap, sym, _∙_}
 use mathlib.Core.List.{List, [], _∷_, _++_}
-use native.Mathlib.Omega.{arith}
-use lib.ListN.{length, getD, set, length-set}
+use lib.ListN.{length, set, length-set}
 use Rattle.names.specs.Names.{threads, registers}
 use Rattle.names.specs.declared.Loc.{Loc}
 use Rattle.names.specs.declared.Reg.{Reg}
@@ -100,14 +99,15 @@ module _ (s : State) (v : Valid s) (g : File) (x : Stepped) (y : Load) where
   unfolding moved
   takes-move t n ps is h e load = rw load (record { valid = valid-places s v ps t n e h; load-in = tt; is = is ∙ rw e })
 
-  -- an entry left its buffer or its queue
+  -- an entry left its buffer or its queue, by a step that is of the sort z
   pub takes-tables :
       (xs ns ys ms ws : List ℕ) → Queues xs ns → Buffers ys ms → length ws ≡ length (s .memory)
-      → x ≡ to (machineOf (held xs ns ys ms (s .places) ws) g) → y ≡ Nothing → Takes x g y (held xs ns ys ms (s .places) ws)
-  takes-tables xs ns ys ms ws queues buffers same is load =
+      → (z : Stepped) → x ≡ z → z ≡ to (machineOf (held xs ns ys ms (s .places) ws) g) → y ≡ Nothing
+      → Takes x g y (held xs ns ys ms (s .places) ws)
+  takes-tables xs ns ys ms ws queues buffers same z sort is load =
       rw load
       (record {
         valid = record { queues = queues; buffers = buffers; places = v .places; in-places = v .in-places; memory = same ∙ v .memory };
         load-in = tt;
-        is = is;
+        is = sort ∙ is;
       })

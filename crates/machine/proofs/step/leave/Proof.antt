@@ -1,6 +1,6 @@
 -- `machine::step::leave` meets its contract: the code is allowed, so there is an entry at its place, which is the one that is read, and it
 -- goes from the machine without it, which the tables after the removal hold. Assumes nothing.
-use Prim.Native.Nat.{ℕ, _+_, _*_, _<_}
+use Prim.Native.Nat.{ℕ, _<_}
 use mathlib.Core.Path.{_≡_, ap, sym, _∙_}
 use mathlib.Core.List.{List, []}
 use mathlib.Core.Option.{some}

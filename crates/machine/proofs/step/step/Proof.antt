@@ -86,8 +86,9 @@ returns-2 c = λ p lists.
     let b = d .before .before in
     let s = state b in
     let g = b .args .regs in
-    let is = step-leave p (machineOf s g) (b .args .c) (leaving (d .before)) (d .if2 .taken) ∙ c .leave .ensures .1 p (s .memory) (s .places) g in
-    takes-tables s (b .pre .0 .1) g _ _ _ _ _ _ _ (c .leave .ensures .0 .0) (c .leave .ensures .0 .1) refl is refl
+    let sort = step-leave p (machineOf s g) (b .args .c) (leaving (d .before)) (d .if2 .taken) in
+    let is = c .leave .ensures .1 p (s .memory) (s .places) g in
+    takes-tables s (b .pre .0 .1) g _ _ _ _ _ _ _ (c .leave .ensures .0 .0) (c .leave .ensures .0 .1) refl _ sort is refl
 
 sub-t32 : tie.Need-sub-t32
 sub-t32 c = omega (arith, persisting (c .before .before .before))
@@ -114,10 +115,9 @@ returns-3 c = λ p lists.
     let b = d .before .before in
     let s = state b in
     let g = b .args .regs in
-    let is =
-    step-persist p (machineOf s g) (b .args .c) (persisting d .0) (persisting d .1)
-    ∙ c .persist .ensures .1 .1 (buffersOf (s .buffered) (s .buffers)) (s .places) g in
-    takes-tables s (b .pre .0 .1) g _ _ _ _ _ _ _ (c .persist .ensures .0) (b .pre .0 .1 .buffers) (c .persist .ensures .1 .0) is refl
+    let sort = step-persist p (machineOf s g) (b .args .c) (persisting d .0) (persisting d .1) in
+    let is = c .persist .ensures .1 .1 (buffersOf (s .buffered) (s .buffers)) (s .places) g in
+    takes-tables s (b .pre .0 .1) g _ _ _ _ _ _ _ (c .persist .ensures .0) (b .pre .0 .1 .buffers) (c .persist .ensures .1 .0) _ sort is refl
 
 pub step-spec : {M : Type 1} → statement M
 step-spec =

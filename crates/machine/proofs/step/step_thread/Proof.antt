@@ -5,7 +5,6 @@ use mathlib.Core.Path.{_≡_, ap, sym, _∙_}
 use mathlib.Core.Option.{some}
 use native.Mathlib.Omega.{arith}
 use lib.ListN.{length, getD}
-use Rattle.names.specs.Names.{threads}
 use Rattle.program.specs.Program.{Prog, mostOps}
 use Rattle.program.proofs.Threads.{found-some, past-none}
 use Rattle.px86.specs.Step.{join, does, next}
@@ -21,7 +20,7 @@ use borrow.Author.Needs.{needs}
 use Rattle.machine.proofs.step.step_thread.Statement.{statement}
 use Rattle.machine.proofs.step.step_thread.Tie as tie
 
--- the state before the step, and that with other places
+-- the state before the step, and that whose place is moved on
 abbrev state : tie.Start → State
 state b =
     held (b .args .queued .now) (b .args .queues .now) (b .args .buffered .now) (b .args .buffers .now) (b .args .places .now) (b .args .memory .now)
