@@ -37,9 +37,10 @@ try-from-requires c κs =
     let u = x .args in
     let listed = c .before .before .before .before .before .before .before .before .before .before .before .before .before .before .before .before .before .before .listed .ensures in
     let s = c .before .before .before .before .before .before .before .before .before .before .before .before .before .before .before .before .before .start .ensures in
-    let g = c .before .before .before .before .before .before .before .before .before .before .before .before .before .before .before .before .no-registers .ensures in
-    (start-walks (u .p) _ _ s g (x .pre .0) _ (u .q) (x .pre .2) (x .pre .3) (listed .1 .1 .0) (x .pre .1) (listed .0) (listed .1 .0),
-    (start-room (u .p) _ _ s g (x .pre .0) _ (u .q) (x .pre .2) (x .pre .3) (listed .1 .1 .0), omega arith))
+    let g = c .before .before .before .before .before .before .before .before .before .before .before .before .before .before .before .before .no-registers .ensures in (
+      start-walks (u .p) _ _ s g (x .pre .0) _ (u .q) (x .pre .2) (x .pre .3) (listed .1 .1 .0) (x .pre .1) (listed .0) (listed .1 .0),
+      (start-room (u .p) _ _ s g (x .pre .0) _ (u .q) (x .pre .2) (x .pre .3) (listed .1 .1 .0), omega arith),
+    )
 
 same-length : tie.Need-same-length
 same-length c = c .before .before .before .try-from .kept .1 .1 .1 .1 .1 .1 .1 .1 .1 .1 .1 .1 .1 .0 ∙ c .before .before .before .before .before .before .before .before .before .before .before .before .before .before .before .before .note .kept .1 .1 .1 .1 .1 .0 ∙ c .before .before .before .before .before .before .before .before .before .before .before .before .before .before .before .before .before .before .before .before .before .before .before .before .before .clear .kept .0
