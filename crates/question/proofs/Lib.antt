@@ -1,0 +1,2 @@
+-- Laws of questions.
+pub mod Walk

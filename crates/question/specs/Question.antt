@@ -1,0 +1,58 @@
+-- The question in memory that stands for what was read: document 01, "A question is a program, a budget .., and what is wanted". Every slot
+-- behind a count is blank, so that equal questions are equal bytes.
+-- Assumes nothing: these are definitions.
+use Prim.Native.Nat.{ℕ}
+use mathlib.Core.Bool.{true, false}
+use mathlib.Core.List.{List, [], map}
+use lib.ListN.{length, replicate}
+use Rattle.names.specs.Names.{threads, locations}
+use Rattle.tables.specs.Tables.{padded, packed}
+use Rattle.program.specs.declared.Op.{Op}
+use Rattle.program.specs.declared.Op.the-variants.{Mf}
+use Rattle.program.specs.declared.Cell.{Cell}
+use Rattle.program.specs.declared.Program.{Program}
+use Rattle.program.specs.declared.Question.{Question}
+use Rattle.program.specs.declared.Want.{Want}
+use Rattle.program.specs.Program.{Prog, Wanted, mostOps}
+use Rattle.program.specs.Program.Wanted.{all, one}
+
+-- what a text asks
+pub record Asked : Type 0 where
+  pub prog : Prog
+  pub budget : ℕ
+  pub want : Wanted
+
+abbrev pub cellOf : Op → Cell
+cellOf o = record { op = o }
+
+-- the slots of four threads, of which those behind the last one have no instructions
+abbrev pub fourOf : List (List Op) → List (List Op)
+fourOf oss = padded threads [] oss
+
+-- a program that says n threads over so many locations, and holds these threads' instructions
+unfoldable pub holding : ℕ → ℕ → List (List Op) → Program
+holding n locs oss =
+    record {
+      cells = packed mostOps (cellOf Mf) (map (map cellOf) (fourOf oss));
+      counts = map length (fourOf oss);
+      threads = n;
+      locs = locs;
+    }
+
+unfoldable pub programOf : Prog → Program
+programOf p = holding (length (p .threads)) (p .locs) (p .threads)
+
+unfoldable pub wantOf : Wanted → Want
+wantOf all = record { all = true; count = 0; values = replicate locations 0 }
+wantOf (one vs) = record { all = false; count = length vs; values = padded locations 0 vs }
+
+-- a question, of which not every thread needs to be there yet
+abbrev pub asking : ℕ → ℕ → ℕ → Wanted → List (List Op) → Question
+asking n locs b w oss = record { program = holding n locs oss; budget = record { 0 = b }; want = wantOf w }
+
+unfoldable pub questionOf : Asked → Question
+questionOf a = record { program = programOf (a .prog); budget = record { 0 = a .budget }; want = wantOf (a .want) }
+
+-- what a refusal returns in the question's place
+abbrev pub noQuestion : Question
+noQuestion = asking 0 0 0 all []
