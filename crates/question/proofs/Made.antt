@@ -14,7 +14,8 @@ use Rattle.program.specs.declared.Op.{Op}
 use Rattle.program.specs.Program.{Prog, progOf, emptyProgram, withOp, mostOps, Wanted, wantedOf}
 use Rattle.program.specs.Program.Wanted.{all, one}
 use Rattle.program.specs.Kept.{Sized}
-use Rattle.question.specs.Question.{cellOf, fourOf, holding, programOf, wantOf}
+use Rattle.words.specs.Want.{wantOf}
+use Rattle.question.specs.Question.{cellOf, fourOf, holding, programOf}
 use Rattle.question.proofs.Four.{Short, short-four, threads-back, four-length, four-open, count-now, four-joined, cell-lengths}
 
 -- no thread yet; one more thread; one more instruction in the last thread
@@ -54,7 +55,7 @@ module _ (p : Prog) (s : Short (p .threads)) where
 
 -- what is wanted
 pub wanted-back : (w : Wanted) → wantedOf (wantOf w) ≡ w
-unfolding pick wantedOf wantOf padded
+unfolding pick wantedOf padded
 wanted-back all = refl
 wanted-back (one vs) =
     ap one (ap (take (length vs)) (append-assoc vs _ _) ∙ take-append-seam vs _)

@@ -2,19 +2,18 @@
 -- behind a count is blank, so that equal questions are equal bytes.
 -- Assumes nothing: these are definitions.
 use Prim.Native.Nat.{ℕ}
-use mathlib.Core.Bool.{true, false}
 use mathlib.Core.List.{List, [], map}
-use lib.ListN.{length, replicate}
-use Rattle.names.specs.Names.{threads, locations}
+use lib.ListN.{length}
+use Rattle.names.specs.Names.{threads}
 use Rattle.tables.specs.Tables.{padded, packed}
 use Rattle.program.specs.declared.Op.{Op}
 use Rattle.program.specs.declared.Op.the-variants.{Mf}
 use Rattle.program.specs.declared.Cell.{Cell}
 use Rattle.program.specs.declared.Program.{Program}
 use Rattle.program.specs.declared.Question.{Question}
-use Rattle.program.specs.declared.Want.{Want}
 use Rattle.program.specs.Program.{Prog, Wanted, mostOps}
-use Rattle.program.specs.Program.Wanted.{all, one}
+use Rattle.program.specs.Program.Wanted.{all}
+use Rattle.words.specs.Want.{wantOf}
 
 -- what a text asks
 pub record Asked : Type 0 where
@@ -41,10 +40,6 @@ holding n locs oss =
 
 unfoldable pub programOf : Prog → Program
 programOf p = holding (length (p .threads)) (p .locs) (p .threads)
-
-unfoldable pub wantOf : Wanted → Want
-wantOf all = record { all = true; count = 0; values = replicate locations 0 }
-wantOf (one vs) = record { all = false; count = length vs; values = padded locations 0 vs }
 
 -- a question, of which not every thread needs to be there yet
 abbrev pub asking : ℕ → ℕ → ℕ → Wanted → List (List Op) → Question

@@ -1,0 +1,5 @@
+-- Laws that several proofs cite.
+pub mod Laws
+pub mod Put
+pub mod Turn
+pub mod Write
