@@ -15,12 +15,7 @@ use Rattle.program.specs.declared.Op.{Op}
 use Rattle.program.specs.declared.Op.the-variants.{Mf}
 use Rattle.program.specs.declared.Cell.{Cell}
 use Rattle.program.specs.Program.{opIn, mostOps}
-use Rattle.question.specs.Question.{cellOf, fourOf}
-
--- no thread has more instructions than it has slots
-abbrev pub Short : List (List Op) → Type 0
-Short [] = Unit {0}
-Short (os ∷ oss) = (length os ≤ mostOps) × Short oss
+use Rattle.question.specs.Question.{cellOf, fourOf, Short}
 
 pub short-last : (oss : List (List Op)) (os : List Op) → Short oss → length os ≤ mostOps → Short (oss ++ os ∷ [])
 short-last [] os s h = (h, tt)

@@ -15,9 +15,8 @@ use Rattle.program.specs.declared.Op.{Op}
 use Rattle.program.specs.Program.{Prog, progOf, countsOf, mostOps}
 use Rattle.program.specs.Legal.{legalOp, legalOps, legalThreads, legalSizes, legalProg, allBelow, legal}
 use Rattle.program.proofs.Tests.{both, sizes}
-use Rattle.question.specs.Question.{holding, programOf}
+use Rattle.question.specs.Question.{holding, programOf, Short}
 use Rattle.question.specs.Past.{leaps, pastIn, past, orElse}
-use Rattle.question.proofs.Four.{Short}
 use Rattle.question.proofs.Made.{prog-back}
 
 -- an instruction that keeps every limit but that of its thread's end

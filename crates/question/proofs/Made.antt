@@ -15,8 +15,8 @@ use Rattle.program.specs.Program.{Prog, progOf, emptyProgram, withOp, mostOps, 
 use Rattle.program.specs.Program.Wanted.{all, one}
 use Rattle.program.specs.Kept.{Sized}
 use Rattle.words.specs.Want.{wantOf}
-use Rattle.question.specs.Question.{cellOf, fourOf, holding, programOf}
-use Rattle.question.proofs.Four.{Short, short-four, threads-back, four-length, four-open, count-now, four-joined, cell-lengths}
+use Rattle.question.specs.Question.{cellOf, fourOf, holding, programOf, Short}
+use Rattle.question.proofs.Four.{short-four, threads-back, four-length, four-open, count-now, four-joined, cell-lengths}
 
 -- no thread yet; one more thread; one more instruction in the last thread
 pub holding-none : (n locs : ℕ) → emptyProgram n locs ≡ holding n locs []

@@ -1,8 +1,8 @@
 -- The question in memory that stands for what was read: document 01, "A question is a program, a budget .., and what is wanted". Every slot
 -- behind a count is blank, so that equal questions are equal bytes.
 -- Assumes nothing: these are definitions.
-use Prim.Native.Nat.{ℕ}
-use mathlib.Core.List.{List, [], map}
+use Prim.Native.Nat.{ℕ, _≤_}
+use mathlib.Core.List.{List, [], _∷_, map}
 use lib.ListN.{length}
 use Rattle.names.specs.Names.{threads}
 use Rattle.tables.specs.Tables.{padded, packed}
@@ -23,6 +23,11 @@ pub record Asked : Type 0 where
 
 abbrev pub cellOf : Op → Cell
 cellOf o = record { op = o }
+
+-- no thread has more instructions than it has slots
+abbrev pub Short : List (List Op) → Type 0
+Short [] = Unit {0}
+Short (os ∷ oss) = (length os ≤ mostOps) × Short oss
 
 -- the slots of four threads, of which those behind the last one have no instructions
 abbrev pub fourOf : List (List Op) → List (List Op)
