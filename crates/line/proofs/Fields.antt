@@ -18,7 +18,7 @@ use Rattle.line.specs.declared.Values.{Values}
 use Rattle.line.specs.Split.{split, comma}
 use Rattle.line.specs.Join.{AllClean}
 use Rattle.line.specs.Line.{within}
-use Rattle.line.specs.Fields.{Range, Judged, shape, limit, fine, extend, fieldsFrom, Fits, rangesFrom, blank, packed, Long, IsByte}
+use Rattle.line.specs.Fields.{Range, Judged, shape, limit, fine, extend, fieldsFrom, fieldsOf, Fits, rangesFrom, blank, packed, Long, IsByte}
 use Rattle.line.proofs.Split.{split-some}
 use Rattle.line.proofs.Join.{clean-decimal}
 use Rattle.line.proofs.Lines.{within-is, within-of}
@@ -92,6 +92,11 @@ clean-numbers [] = tt
 clean-numbers (u ∷ us) = (clean-decimal comma u (omega arith), clean-numbers us)
 
 -- THE TURNS of the loop, which has read k of n fields
+pub fields-start : (ls ms l : List ℕ) (n : ℕ)
+    → fieldsFrom (fine []) (rangesFrom (n - 0) 0 ls ms) (split comma l) ≡ fieldsOf (rangesFrom n 0 ls ms) l
+unfolding fieldsOf
+fields-start ls ms l n = let z : n - 0 ≡ n = omega arith in rw z
+
 module _ (ls ms : List ℕ) (n k : ℕ) where
   ranges-end : n ≤ k → rangesFrom (n - k) k ls ms ≡ []
   unfolding rangesFrom

@@ -153,7 +153,7 @@ fn added(v: Values, k: usize, f: Field) -> Values
 
 // A byte as a number of the text.
 pub fn wide(x: u8) -> u32
-    ensures { λ r. ⌜ r ≡ x ⌝ }
+    ensures { λ r. ⌜ (r ≡ x) × (r ≤ 255) ⌝ }
 {
     x as u32
 }
@@ -201,12 +201,12 @@ pub fn put_number_line(buf: &mut [u8], at: usize, w: &[u8], n: u32) -> usize
 }
 
 // Writes a comma and a number.
-fn put_value(buf: &mut [u8], at: usize, v: u8) -> usize
+fn put_value(buf: &mut [u8], at: usize, v: u32) -> usize
     requires { ⌜ at + length (44 ∷ decimal v) ≤ length (now buf) ⌝ }
     ensures { λ r. ⌜ (r ≡ at + length (44 ∷ decimal v)) × (now (buf .exit) ≡ put (now (buf .entry)) at (44 ∷ decimal v)) ⌝ }
 {
     let e = number::put_bytes(buf, at, b",");
-    number::put_number(buf, e, wide(v))
+    number::put_number(buf, e, v)
 }
 
 // Writes the numbers from place k on up to the n-th, each behind a comma, and returns the place behind them.
@@ -218,7 +218,7 @@ pub fn put_values(buf: &mut [u8], at: usize, vals: [u8; 6], k: usize, n: usize) 
     let mut e = at;
     let mut i = k;
     while i < n {
-        e = put_value(buf, e, vals[i]);
+        e = put_value(buf, e, wide(vals[i]));
         i += 1;
     }
     e

@@ -88,17 +88,61 @@ fn ranges_of(k: Kind, locs: u8) -> Ranges
     let r = Reg::LIMIT - 1;
     let none = [0u8; 6];
     match k {
-        Kind::WordSt => Ranges { count: 2, least: none, most: [l, 255, 0, 0, 0, 0] },
-        Kind::WordSr => Ranges { count: 2, least: none, most: [l, r, 0, 0, 0, 0] },
-        Kind::WordLd => Ranges { count: 2, least: none, most: [r, l, 0, 0, 0, 0] },
-        Kind::WordCas => Ranges { count: 4, least: none, most: [r, l, 255, 255, 0, 0] },
-        Kind::WordFaa => Ranges { count: 3, least: none, most: [r, l, 255, 0, 0, 0] },
-        Kind::WordMf => Ranges { count: 0, least: none, most: none },
-        Kind::WordSf => Ranges { count: 0, least: none, most: none },
-        Kind::WordFl => Ranges { count: 1, least: none, most: [l, 0, 0, 0, 0, 0] },
-        Kind::WordFo => Ranges { count: 1, least: none, most: [l, 0, 0, 0, 0, 0] },
-        Kind::WordBz => Ranges { count: 2, least: [0, 1, 0, 0, 0, 0], most: [r, Program::ROOM, 0, 0, 0, 0] },
-        Kind::Other => Ranges { count: 0, least: none, most: none },
+        Kind::WordSt => Ranges {
+            count: 2,
+            least: none,
+            most: [l, 255, 0, 0, 0, 0],
+        },
+        Kind::WordSr => Ranges {
+            count: 2,
+            least: none,
+            most: [l, r, 0, 0, 0, 0],
+        },
+        Kind::WordLd => Ranges {
+            count: 2,
+            least: none,
+            most: [r, l, 0, 0, 0, 0],
+        },
+        Kind::WordCas => Ranges {
+            count: 4,
+            least: none,
+            most: [r, l, 255, 255, 0, 0],
+        },
+        Kind::WordFaa => Ranges {
+            count: 3,
+            least: none,
+            most: [r, l, 255, 0, 0, 0],
+        },
+        Kind::WordMf => Ranges {
+            count: 0,
+            least: none,
+            most: none,
+        },
+        Kind::WordSf => Ranges {
+            count: 0,
+            least: none,
+            most: none,
+        },
+        Kind::WordFl => Ranges {
+            count: 1,
+            least: none,
+            most: [l, 0, 0, 0, 0, 0],
+        },
+        Kind::WordFo => Ranges {
+            count: 1,
+            least: none,
+            most: [l, 0, 0, 0, 0, 0],
+        },
+        Kind::WordBz => Ranges {
+            count: 2,
+            least: [0, 1, 0, 0, 0, 0],
+            most: [r, Program::ROOM, 0, 0, 0, 0],
+        },
+        Kind::Other => Ranges {
+            count: 0,
+            least: none,
+            most: none,
+        },
     }
 }
 
@@ -255,16 +299,66 @@ fn encode(o: Op) -> Coded
     ensures { λ r. ⌜ IsCoded o r ⌝ }
 {
     match o {
-        Op::St(l, v) => Coded { width: 2, word: [115, 116, 0], count: 2, vals: [l.0, v, 0, 0, 0, 0] },
-        Op::Sr(l, r) => Coded { width: 2, word: [115, 114, 0], count: 2, vals: [l.0, r.0, 0, 0, 0, 0] },
-        Op::Ld(r, l) => Coded { width: 2, word: [108, 100, 0], count: 2, vals: [r.0, l.0, 0, 0, 0, 0] },
-        Op::Cas(r, l, e, n) => Coded { width: 3, word: [99, 97, 115], count: 4, vals: [r.0, l.0, e, n, 0, 0] },
-        Op::Faa(r, l, v) => Coded { width: 3, word: [102, 97, 97], count: 3, vals: [r.0, l.0, v, 0, 0, 0] },
-        Op::Mf => Coded { width: 2, word: [109, 102, 0], count: 0, vals: [0u8; 6] },
-        Op::Sf => Coded { width: 2, word: [115, 102, 0], count: 0, vals: [0u8; 6] },
-        Op::Fl(l) => Coded { width: 2, word: [102, 108, 0], count: 1, vals: [l.0, 0, 0, 0, 0, 0] },
-        Op::Fo(l) => Coded { width: 2, word: [102, 111, 0], count: 1, vals: [l.0, 0, 0, 0, 0, 0] },
-        Op::Bz(r, n) => Coded { width: 2, word: [98, 122, 0], count: 2, vals: [r.0, n, 0, 0, 0, 0] },
+        Op::St(l, v) => Coded {
+            width: 2,
+            word: [115, 116, 0],
+            count: 2,
+            vals: [l.0, v, 0, 0, 0, 0],
+        },
+        Op::Sr(l, r) => Coded {
+            width: 2,
+            word: [115, 114, 0],
+            count: 2,
+            vals: [l.0, r.0, 0, 0, 0, 0],
+        },
+        Op::Ld(r, l) => Coded {
+            width: 2,
+            word: [108, 100, 0],
+            count: 2,
+            vals: [r.0, l.0, 0, 0, 0, 0],
+        },
+        Op::Cas(r, l, e, n) => Coded {
+            width: 3,
+            word: [99, 97, 115],
+            count: 4,
+            vals: [r.0, l.0, e, n, 0, 0],
+        },
+        Op::Faa(r, l, v) => Coded {
+            width: 3,
+            word: [102, 97, 97],
+            count: 3,
+            vals: [r.0, l.0, v, 0, 0, 0],
+        },
+        Op::Mf => Coded {
+            width: 2,
+            word: [109, 102, 0],
+            count: 0,
+            vals: [0u8; 6],
+        },
+        Op::Sf => Coded {
+            width: 2,
+            word: [115, 102, 0],
+            count: 0,
+            vals: [0u8; 6],
+        },
+        Op::Fl(l) => Coded {
+            width: 2,
+            word: [102, 108, 0],
+            count: 1,
+            vals: [l.0, 0, 0, 0, 0, 0],
+        },
+        Op::Fo(l) => Coded {
+            width: 2,
+            word: [102, 111, 0],
+            count: 1,
+            vals: [l.0, 0, 0, 0, 0, 0],
+        },
+        Op::Bz(r, n) => Coded {
+            width: 2,
+            word: [98, 122, 0],
+            count: 2,
+            vals: [r.0, n, 0, 0, 0, 0],
+        },
     }
 }
 
