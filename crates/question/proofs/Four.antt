@@ -90,6 +90,9 @@ module _ (done : List (List Op)) (now : List Op) where
   pub four-now : getD (fourOf (done ++ now ∷ [])) (length done) [] ≡ now
   four-now = rw four-split (getD-at done now (replicate (threads - suc (length done)) []) [] (length done) refl)
 
+  pub count-now : getD (lengths (fourOf (done ++ now ∷ []))) (length done) 0 ≡ length now
+  count-now = List·getD-map length (fourOf (done ++ now ∷ [])) (length done) [] ∙ ap length four-now
+
 pub four-set :
     (done : List (List Op)) (now os : List Op) → set (fourOf (done ++ now ∷ [])) (length done) os ≡ fourOf (done ++ os ∷ [])
 four-set done now os =
@@ -120,9 +123,6 @@ module _ (done : List (List Op)) (now : List Op) (o : Op) (s : Short (done ++ no
   abbrev four : List (List Op)
   four = fourOf (done ++ now ∷ [])
 
-  pub count-now : getD (lengths four) (length done) 0 ≡ length now
-  count-now = List·getD-map length four (length done) [] ∙ ap length (four-now done now)
-
   joined-rows :
       set (map (map cellOf) four) (length done) (getD (map (map cellOf) four) (length done) [] ++ cellOf o ∷ [])
       ≡ map (map cellOf) (fourOf (done ++ (now ++ o ∷ []) ∷ []))
@@ -142,6 +142,6 @@ module _ (done : List (List Op)) (now : List Op) (o : Op) (s : Short (done ++ no
       let long : length (done ++ now ∷ []) ≡ length done + 1 = length-append done (now ∷ []) in
       let many : length rs ≡ threads = length-map four (map cellOf) ∙ four-length (done ++ now ∷ []) (omega arith) in
       let b : Below mostOps (lengths rs) = rw same (short-four (done ++ now ∷ []) s) in
-      let k : getD (lengths rs) (length done) 0 < mostOps = rw same (omega (arith, count-now)) in
+      let k : getD (lengths rs) (length done) 0 < mostOps = rw same (omega (arith, count-now done now)) in
       let j = row-joined mostOps (cellOf Mf) rs b (length done) (omega arith) (cellOf o) k in
       (rw same at (j .0 ∙ ap (packed mostOps (cellOf Mf)) joined-rows), rw same at (j .1) ∙ ap lengths joined-rows ∙ cell-lengths (fourOf (done ++ (now ++ o ∷ []) ∷ [])))

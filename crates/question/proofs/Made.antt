@@ -33,8 +33,21 @@ pub holding-joined :
 unfolding pick withOp holding
 holding-joined n locs done now o s there few room =
     let j = four-joined done now o s few room in
-    let c : getD (lengths (fourOf (done ++ now ∷ []))) (length done) 0 < mostOps = omega (arith, count-now done now o s few room) in
+    let c : getD (lengths (fourOf (done ++ now ∷ []))) (length done) 0 < mostOps = omega (arith, count-now done now) in
     rw (lt-ltb (length done) n there, lt-ltb (length done) threads few, lt-ltb _ mostOps c, j .0, j .1)
+
+-- what it says of itself
+pub holding-threads : (n locs : ℕ) (oss : List (List Op)) → holding n locs oss .threads ≡ n
+unfolding holding
+holding-threads n locs oss = refl
+
+pub holding-locs : (n locs : ℕ) (oss : List (List Op)) → holding n locs oss .locs ≡ locs
+unfolding holding
+holding-locs n locs oss = refl
+
+pub holding-count : (n locs : ℕ) (done : List (List Op)) (now : List Op) → getD (holding n locs (done ++ now ∷ []) .counts) (length done) 0 ≡ length now
+unfolding holding
+holding-count n locs done now = count-now done now
 
 module _ (p : Prog) (s : Short (p .threads)) where
   -- a program made of threads stands for them

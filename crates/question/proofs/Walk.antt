@@ -38,12 +38,12 @@ module _ (cells : List Cell) (t n : ℕ) (fits : t * mostOps + n ≤ length cell
   leap-end k at h = rw (ops-none cells t n fits k h)
 
 -- what an answer says of the definition's
-jump-past : (x : Option ℕ) (at : ℕ) → Past at ≡ jumpOf x → x ≡ some at
+pub jump-past : (x : Option ℕ) (at : ℕ) → Past at ≡ jumpOf x → x ≡ some at
 unfolding jumpOf
 jump-past none at e = let z : _≡_ {A = ℕ} 0 1 = cc in absurd (omega arith)
 jump-past (some n) at e = cc
 
-jump-within : (x : Option ℕ) → Within ≡ jumpOf x → x ≡ none
+pub jump-within : (x : Option ℕ) → Within ≡ jumpOf x → x ≡ none
 unfolding jumpOf
 jump-within none e = refl
 jump-within (some n) e = let z : _≡_ {A = ℕ} 0 1 = cc in absurd (omega arith)
