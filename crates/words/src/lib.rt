@@ -254,10 +254,11 @@ fn want_values(part: &[u8], locs: u8) -> WantRead
     if s != 0 {
         return want_all(s);
     }
+    let values = g.vals;
     let want = Want {
         all: false,
         count: locs,
-        values: g.vals,
+        values,
     };
     WantRead { state: 0, want }
 }
