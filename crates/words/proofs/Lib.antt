@@ -2,3 +2,4 @@
 pub mod Words
 pub mod Op
 pub mod Want
+pub mod Made

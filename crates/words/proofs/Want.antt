@@ -2,9 +2,9 @@
 use mathlib.Core.Path.{_≡_, refl, sym, _∙_, ap, subst}
 use mathlib.Core.Bool.{Bool, true, false}
 use mathlib.Core.List.{List, [], _∷_, _++_, map}
-use Prim.Native.Nat.{ℕ, zero, suc, _<_}
+use Prim.Native.Nat.{ℕ, zero, suc, _+_, _≤_, _<_}
 use native.Mathlib.Omega.{arith}
-use lib.ListN.{length, drop, replicate, length-replicate}
+use lib.ListN.{length, drop, getD, replicate, length-replicate, getD-replicate}
 use lib.Seq.{drop-append-seam}
 use Rattle.names.specs.Names.{pick}
 use Rattle.program.specs.Program.{Wanted}
@@ -14,11 +14,13 @@ use Rattle.number.proofs.Laws.{numberOf-decimal}
 use Rattle.line.specs.Split.{split, begins, equal, comma}
 use Rattle.line.specs.Join.{join}
 use Rattle.line.specs.Fields as fields
-use Rattle.line.specs.Fields.{Judged, Range, fieldsFrom, fieldsOf, Fits}
+use Rattle.line.specs.Fields.{Judged, Range, fieldsFrom, fieldsOf, Fits, rangesFrom, packed}
 use Rattle.line.proofs.Join.{join-split, split-join, clean-decimal}
 use Rattle.line.proofs.Lines.{begins-is, begins-of, equal-is, equal-of}
 use Rattle.line.proofs.Fields.{fields-is, fields-of, fits-length, clean-numbers}
-use Rattle.words.specs.Want.{wantKey, allWord, WantLine, shape, limit, fine, wantRanges, wantJudged, wantRest, wantLine, wantText, WantFits}
+use Rattle.words.specs.declared.WantRead.{WantRead}
+use Rattle.words.specs.Words.{byte, rangeOf}
+use Rattle.words.specs.Want.{wantKey, allWord, WantLine, shape, limit, fine, wantRanges, wantJudged, wantRest, wantLine, wantText, WantFits, wantBlank, packedWant}
 
 -- "all" is no list of numbers
 not-number : (n : ℕ) → allWord ≡ decimal n → ⊥
@@ -107,3 +109,45 @@ want-is locs l w e = go (begins wantKey l) refl e
 -- as many values as locations
 pub want-count : (locs : ℕ) (vs : List ℕ) → WantFits locs (one vs) → length vs ≡ locs
 want-count locs vs h = fits-length (wantRanges locs) vs h ∙ length-replicate locs _
+
+-- BY THE CODE'S TESTS
+pub want-line-no : (locs : ℕ) (l : List ℕ) → begins wantKey l ≡ false → shape ≡ wantLine locs l
+unfolding wantLine pick
+want-line-no locs l e = rw e
+
+pub want-line-yes : (locs : ℕ) (l : List ℕ) → begins wantKey l ≡ true → wantRest locs (drop (length wantKey) l) ≡ wantLine locs l
+unfolding wantLine pick
+want-line-yes locs l e = rw e
+
+pub want-rest-all : (locs : ℕ) (l : List ℕ) → equal allWord l ≡ true → fine all ≡ wantRest locs l
+unfolding wantRest pick
+want-rest-all locs l e = rw e
+
+pub want-rest-one : (locs : ℕ) (l : List ℕ) → equal allWord l ≡ false → wantJudged (fieldsOf (wantRanges locs) l) ≡ wantRest locs l
+unfolding wantRest pick
+want-rest-one locs l e = rw e
+
+-- the ranges as the code holds them
+pub want-ranges : (w locs n k : ℕ) → k + n ≤ w → rangesFrom n k (replicate w 0) (replicate w 255) ≡ replicate n (rangeOf locs byte)
+unfolding rangesFrom
+want-ranges w locs zero k h = refl
+want-ranges w locs (suc n) k h =
+    rw (getD-replicate {A = ℕ} w k 0 0 (omega arith), getD-replicate {A = ℕ} w k 255 0 (omega arith)) (ap (λ (l : List Range). rangeOf locs byte ∷ l) (want-ranges w locs n (suc k) (omega arith)))
+
+-- values that are not fine, and as many as locations
+pub want-no : (j : Judged) → (packed j .state ≡ 0 → ⊥) → wantBlank (packed j .state) ≡ packedWant (wantJudged j)
+want-no fields.shape h = refl
+want-no fields.limit h = refl
+want-no (fields.fine vs) h = absurd (h refl)
+
+pub want-yes : (j : Judged) (locs : ℕ) → ((vs : List ℕ) → j ≡ fields.fine vs → length vs ≡ locs) → packed j .state ≡ 0
+    → _≡_ {A = WantRead} (record { state = 0; want = record { all = false; count = locs; values = packed j .vals } }) (packedWant (wantJudged j))
+want-yes fields.shape locs h z = absurd (omega arith)
+want-yes fields.limit locs h z = absurd (omega arith)
+want-yes (fields.fine vs) locs h z = rw (← h vs refl)
+
+pub judged-count : (locs : ℕ) (l vs : List ℕ) → fieldsOf (wantRanges locs) l ≡ fields.fine vs → length vs ≡ locs
+unfolding fieldsOf
+judged-count locs l vs e =
+    let g = fields-is (wantRanges locs) (split comma l) [] vs e in
+    want-count locs vs (subst (Fits (wantRanges locs)) (g .1) (g .3))
