@@ -1,8 +1,7 @@
 -- An op line: a word, and as many numbers behind commas as the word asks for, each in its range. Assumes nothing: these are definitions.
 use mathlib.Core.List.{List, [], _∷_, _++_, map}
-use Prim.Native.Nat.{ℕ, _≤_}
-use mathlib.Core.Path.{_≡_}
-use lib.ListN.{length, drop, take}
+use Prim.Native.Nat.{ℕ}
+use lib.ListN.{length, drop}
 use Rattle.names.specs.Names.{pick}
 use Rattle.program.specs.declared.Op.{Op}
 use Rattle.number.specs.Decimal.{decimal}
@@ -12,7 +11,6 @@ use Rattle.line.specs.Fields.{Judged, shape, limit, fine, fieldsFrom, Fits}
 use Rattle.words.specs.declared.Kind.{Kind}
 use Rattle.words.specs.declared.OpLine.{OpLine}
 use Rattle.words.specs.declared.OpLine.the-variants.{BadShape, BadLimit, Fine}
-use Rattle.words.specs.declared.Coded.{Coded}
 use Rattle.words.specs.Words.{word, made, kindOf, ranges, kindIs, operands}
 
 -- "op="
@@ -41,10 +39,3 @@ opText o = opKey ++ join comma (word (kindIs o) ∷ map decimal (operands o))
 -- each operand of an instruction is in its range
 abbrev pub Within : ℕ → Op → Type 0
 Within locs o = Fits (ranges locs (kindIs o)) (operands o)
-
--- an instruction as a word and its numbers, as the code holds them
-pub record IsCoded (o : Op) (r : Coded) : Type 0 where
-  pub width : r .width ≤ 3
-  pub count : r .count ≤ 6
-  pub word-is : take (r .width) (r .word) ≡ word (kindIs o)
-  pub vals-are : take (r .count) (r .vals) ≡ operands o

@@ -61,7 +61,10 @@ wantOf all = record { all = true; count = 0; values = replicate locations 0 }
 wantOf (one vs) = record { all = false; count = length vs; values = padded locations 0 vs }
 
 -- the same of a line: state 0 is fine, 1 a value outside its limit, 2 misshapen; then all is wanted
+abbrev pub wantBlank : ℕ → WantRead
+wantBlank s = record { state = s; want = wantOf all }
+
 abbrev pub packedWant : WantLine → WantRead
-packedWant shape = record { state = 2; want = wantOf all }
-packedWant limit = record { state = 1; want = wantOf all }
+packedWant shape = wantBlank 2
+packedWant limit = wantBlank 1
 packedWant (fine w) = record { state = 0; want = wantOf w }
