@@ -1,3 +1,8 @@
+-- `text::refuse` meets its contract. Assumes nothing.
+use mathlib.Core.Path.{ap}
+use Rattle.program.specs.declared.Question.{Question}
+use Rattle.text.specs.declared.Verdict.the-variants.{Refused}
+use Rattle.text.specs.Read.{parsedOf}
 use borrow.Author.Needs.{needs}
 use Rattle.text.proofs.refuse.Statement.{statement}
 use Rattle.text.proofs.refuse.Tie as tie
@@ -5,13 +10,12 @@ use Rattle.text.proofs.refuse.Reads as reads
 use Rattle.text.proofs.refuse.Lts as lts
 use Rattle.text.proofs.blank.Reads as blank-reads
 
--- src/lib.rt:86:9
 blank-requires : tie.Need-blank-requires
 blank-requires c κs = search needs
 
--- src/lib.rt:83:1
 returns : tie.Need-returns
-returns c = ?
+unfolding parsedOf
+returns c = let a = c .before .args in ap (λ (q : Question). record { verdict = Refused (a .k) (a .n); question = q }) (c .blank .ensures)
 
 pub refuse-spec : {M : Type 1} → statement M
 refuse-spec = tie.close (tie.spec blank-requires returns)

@@ -1,3 +1,7 @@
+-- `text::settle` meets its contract. Assumes nothing.
+use mathlib.Core.Path.{ap, _∙_}
+use Rattle.text.specs.Read.{parsedOf}
+use Rattle.text.proofs.Ends.{settle-ready, settle-past, settle-fine}
 use borrow.Author.Needs.{needs}
 use Rattle.text.proofs.settle.Statement.{statement}
 use Rattle.text.proofs.settle.Tie as tie
@@ -6,29 +10,32 @@ use Rattle.text.proofs.settle.Lts as lts
 use Rattle.question.proofs.first_past.Reads as first-past-reads
 use Rattle.text.proofs.refuse.Reads as refuse-reads
 
--- src/lib.rt:283:11
 first-past-requires : tie.Need-first-past-requires
-first-past-requires c κs = ?
+first-past-requires c κs =
+    let s = c .before in
+    let p = s .pre in
+    settle-ready (s .args .q) (p .0) (p .2) (p .3) (p .1)
 
--- src/lib.rt:284:20
 enum-known-at : tie.Need-enum-known-at
 enum-known-at c = search needs
 
--- src/lib.rt:284:27
 refuse-requires : tie.Need-refuse-requires
 refuse-requires c κs = search needs
 
--- src/lib.rt:286:22
 enum-told : tie.Need-enum-told
 enum-told c = search needs
 
--- src/lib.rt:278:1
 returns : tie.Need-returns
-returns c = ?
+returns c =
+    let f = c .before .before .before .before in
+    let q = f .before .before .args .q in
+    λ a s e. c .refuse .ensures ∙ ap parsedOf (settle-past q a s e (f .first-past .result) _ (f .first-past .ensures) (c .before .before .at .given .1))
 
--- src/lib.rt:278:1
 returns-2 : tie.Need-returns-2
-returns-2 c = ?
+returns-2 c =
+    let f = c .before .before in
+    let q = f .before .before .args .q in
+    λ a s e. settle-fine q a s e (f .first-past .result) (f .first-past .ensures) (c .enum-told .given .1)
 
 pub settle-spec : {M : Type 1} → statement M
 settle-spec =

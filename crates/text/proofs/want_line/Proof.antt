@@ -1,3 +1,9 @@
+-- `text::want_line` meets its contract. Assumes nothing.
+use mathlib.Core.Path.{ap, sym, _∙_}
+use Rattle.words.specs.Want.{wantLine}
+use Rattle.text.specs.Read.{step, wanting}
+use Rattle.text.specs.Packed.{packedStep}
+use Rattle.text.proofs.Steps.{want-limit, want-shape, want-read}
 use borrow.Author.Needs.{needs}
 use Rattle.text.proofs.want_line.Statement.{statement}
 use Rattle.text.proofs.want_line.Tie as tie
@@ -5,35 +11,41 @@ use Rattle.text.proofs.want_line.Reads as reads
 use Rattle.text.proofs.want_line.Lts as lts
 use Rattle.program.proofs.Program.empty.Reads as empty-reads
 use Rattle.text.proofs.fail.Reads as fail-reads
-use Rattle.text.proofs.stub.want_line.Reads as want-line-reads
+use Rattle.words.proofs.want_line.Reads as want-line-reads
 
--- src/lib.rt:147:9
 want-line-requires : tie.Need-want-line-requires
 want-line-requires c κs = search needs
 
--- src/lib.rt:150:9
 fail-requires : tie.Need-fail-requires
 fail-requires c κs = search needs
 
--- src/lib.rt:150:9
 returns : tie.Need-returns
-returns c = ?
+unfolding step
+returns c =
+    let w = c .before .before .want-line in
+    let a = c .before .before .before .before .args in
+    c .fail .ensures
+    ∙ sym (ap packedStep (want-limit (λ x. wanting (record { threads = a .t; locs = a .n; budget = a .b; want = x })) (w .result) (wantLine (a .n) (a .s .now)) (w .ensures) (c .before .if1 .taken)))
 
--- src/lib.rt:153:9
 fail-requires-2 : tie.Need-fail-requires-2
 fail-requires-2 c κs = search needs
 
--- src/lib.rt:153:9
 returns-2 : tie.Need-returns-2
-returns-2 c = ?
+unfolding step
+returns-2 c =
+    let w = c .before .before .before .want-line in
+    let a = c .before .before .before .before .before .args in
+    c .fail2 .ensures
+    ∙ sym (ap packedStep (want-shape (λ x. wanting (record { threads = a .t; locs = a .n; budget = a .b; want = x })) (w .result) (wantLine (a .n) (a .s .now)) (w .ensures) (c .before .before .if1 .left) (c .before .if2 .taken)))
 
--- src/lib.rt:155:9
 empty-requires : tie.Need-empty-requires
 empty-requires c κs = search needs
 
--- src/lib.rt:143:1
 returns-3 : tie.Need-returns-3
-returns-3 c = ?
+returns-3 c =
+    let w = c .before .before .before .before .want-line in
+    let a = c .before .before .before .before .before .before .args in
+    want-read (c .before .empty .result) (a .t) (a .n) (a .b) (a .s .now) (w .result) (c .before .empty .ensures) (w .ensures) (c .before .before .if2 .left)
 
 pub want-line-spec : {M : Type 1} → statement M
 want-line-spec =
