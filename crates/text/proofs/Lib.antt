@@ -3,3 +3,4 @@ pub mod Steps
 pub mod Ends
 pub mod Keeps
 pub mod Unique
+pub mod Examples
