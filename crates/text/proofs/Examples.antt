@@ -71,8 +71,8 @@ firsts =
     ∷ row " threads=1\n" 2 1
     ∷ row "threads=1\r\n" 2 1
     ∷ row "threads=1\0\n" 2 1
-    ∷ row "threads=1\u{ff}\n" 2 1
-    ∷ row "\u{ff}\n" 2 1
+    ∷ row "threads=1ÿ\n" 2 1
+    ∷ row "ÿ\n" 2 1
     ∷ row "Threads=1\n" 2 1
     -- below and above its limit, and of a thousand digits; a line that is refused hides what is wrong below it
     ∷ row "threads=0\n" 3 1
@@ -157,7 +157,7 @@ ops =
     ∷ row (begun ++ "op=mf,0\n") 2 6
     ∷ row (begun ++ "op=st,0,01\n") 2 6
     ∷ row (begun ++ "op=st,0, 1\n") 2 6
-    ∷ row (begun ++ "op=st,0,\u{b2}\n") 2 6
+    ∷ row (begun ++ "op=st,0,²\n") 2 6
     -- a location, a register, a value and a skip outside their limits; misshapen is told first
     ∷ row (begun ++ "op=st,2,1\n") 3 6
     ∷ row (begun ++ "op=sr,0,4\n") 3 6

@@ -198,3 +198,7 @@ module _ (g : State) where
       go (suc (suc (suc zero))) q f = absurd (n3 q)
       go (suc (suc (suc (suc zero)))) q f = absurd (n4 q)
       go (suc (suc (suc (suc (suc k))))) q f = f
+
+-- a turn that is that of the line, read from the same
+pub read-as : (r : Turn) (l : List ℕ) (v u : So) → r ≡ packedStep (step v l) → u ≡ v → r ≡ packedStep (step u l)
+read-as r l v u e f = e ∙ ap (λ (x : So). packedStep (step x l)) (sym f)

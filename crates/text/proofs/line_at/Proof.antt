@@ -4,7 +4,7 @@ use native.Mathlib.Omega.{arith}
 use Rattle.names.specs.Names.{locations}
 use Rattle.text.specs.Read.{So, step, inside, budgeted}
 use Rattle.text.specs.Packed.{packed, packedStep, Valid}
-use Rattle.text.proofs.Steps.{first-opened, at-stage, at-body}
+use Rattle.text.proofs.Steps.{first-opened, at-stage, at-body, read-as}
 use mathlib.Core.List.{[]}
 use borrow.Author.Needs.{needs}
 use Rattle.text.proofs.line_at.Statement.{statement}
@@ -24,7 +24,7 @@ threads-line-requires c κs = search needs
 returns : tie.Need-returns
 returns c =
     let a = c .before .before .before .before .before .args in
-    λ u v e. c .threads-line .ensures ∙ ap (λ x. packedStep (step x (a .s .now))) (sym (at-stage (a .g) 0 u e (c .before .if1 .taken)))
+    λ u v e. read-as (c .threads-line .result) (a .s .now) _ u (c .threads-line .ensures) (at-stage (a .g) 0 u e (c .before .if1 .taken))
 
 locs-line-requires : tie.Need-locs-line-requires
 locs-line-requires c κs = search needs
@@ -32,7 +32,7 @@ locs-line-requires c κs = search needs
 returns-2 : tie.Need-returns-2
 returns-2 c =
     let a = c .before .before .before .before .before .before .args in
-    λ u v e. c .locs-line .ensures ∙ ap (λ x. packedStep (step x (a .s .now))) (sym (at-stage (a .g) 1 u e (c .before .if2 .taken)))
+    λ u v e. read-as (c .locs-line .result) (a .s .now) _ u (c .locs-line .ensures) (at-stage (a .g) 1 u e (c .before .if2 .taken))
 
 budget-line-requires : tie.Need-budget-line-requires
 budget-line-requires c κs = search needs
@@ -40,7 +40,7 @@ budget-line-requires c κs = search needs
 returns-3 : tie.Need-returns-3
 returns-3 c =
     let a = c .before .before .before .before .before .before .before .args in
-    λ u v e. c .budget-line .ensures ∙ ap (λ x. packedStep (step x (a .s .now))) (sym (at-stage (a .g) 2 u e (c .before .if3 .taken)))
+    λ u v e. read-as (c .budget-line .result) (a .s .now) _ u (c .budget-line .ensures) (at-stage (a .g) 2 u e (c .before .if3 .taken))
 
 want-line-requires : tie.Need-want-line-requires
 want-line-requires c κs =
@@ -51,7 +51,7 @@ want-line-requires c κs =
 returns-4 : tie.Need-returns-4
 returns-4 c =
     let a = c .before .before .before .before .before .before .before .before .before .args in
-    λ u v e. c .want-line .ensures ∙ ap (λ x. packedStep (step x (a .s .now))) (sym (at-stage (a .g) 3 u e (c .before .before .if4 .taken)))
+    λ u v e. read-as (c .want-line .result) (a .s .now) _ u (c .want-line .ensures) (at-stage (a .g) 3 u e (c .before .before .if4 .taken))
 
 thread-line-requires : tie.Need-thread-line-requires
 thread-line-requires c κs = search needs
