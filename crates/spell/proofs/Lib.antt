@@ -1,0 +1,2 @@
+-- Laws of the lines' pieces.
+pub mod Pieces
