@@ -3,3 +3,5 @@ pub mod Laws
 pub mod Put
 pub mod Turn
 pub mod Write
+pub mod Unique
+pub mod Examples

@@ -1,2 +1,3 @@
 -- Laws of the lines' pieces.
 pub mod Pieces
+pub mod Unique

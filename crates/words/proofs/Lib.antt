@@ -3,3 +3,5 @@ pub mod Words
 pub mod Op
 pub mod Want
 pub mod Made
+pub mod Examples
+pub mod Unique
