@@ -4,3 +4,4 @@ pub mod Join
 pub mod Lines
 pub mod Fields
 pub mod Turn
+pub mod Unique

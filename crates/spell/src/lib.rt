@@ -12,7 +12,7 @@ ghost use Rattle.number.specs.Put.{put};
 ghost use Rattle.line.specs.Split.{lineFeed};
 ghost use Rattle.words.specs.Op.{opText};
 ghost use Rattle.words.specs.Want.{wantText};
-ghost use Rattle.spell.specs.Coded.{IsCoded};
+ghost use Rattle.spell.specs.Coded.{IsCoded, wantPieces};
 
 // An instruction as its word and its numbers, 0 behind each.
 pub struct Coded {
@@ -113,6 +113,18 @@ pub fn put_op_line(buf: &mut [u8], at: usize, o: Op) -> usize
     number::put_bytes(buf, e, b"\n")
 }
 
+// Writes the want line of n values with its line feed, and returns the place behind it.
+fn put_wanted(buf: &mut [u8], at: usize, vals: [u8; 6], n: usize) -> usize
+    requires { ⌜ (0 < n) × (n ≤ 6) × (at + length (wantPieces vals n) ≤ length (now buf)) ⌝ }
+    ensures { λ r. ⌜ (r ≡ at + length (wantPieces vals n)) × (now (buf .exit) ≡ put (now (buf .entry)) at (wantPieces vals n)) ⌝ }
+{
+    let first = line::wide(vals[0]);
+    let e = number::put_bytes(buf, at, b"want=");
+    let f = number::put_number(buf, e, first);
+    let g = line::put_values(buf, f, vals, 1, n);
+    number::put_bytes(buf, g, b"\n")
+}
+
 // Writes the want line with its line feed, and returns the place behind it.
 pub fn put_want_line(buf: &mut [u8], at: usize, w: Want) -> usize
     requires { ⌜ (w .all ≡ false → (0 < w .count) × (w .count ≤ locations))
@@ -123,10 +135,7 @@ pub fn put_want_line(buf: &mut [u8], at: usize, w: Want) -> usize
     if w.all {
         return number::put_bytes(buf, at, b"want=all\n");
     }
-    let v = w.values;
+    let vals = w.values;
     let n = w.count as usize;
-    let e = number::put_bytes(buf, at, b"want=");
-    let f = number::put_number(buf, e, line::wide(v[0]));
-    let g = line::put_values(buf, f, v, 1, n);
-    number::put_bytes(buf, g, b"\n")
+    put_wanted(buf, at, vals, n)
 }

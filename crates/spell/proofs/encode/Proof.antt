@@ -1,88 +1,82 @@
+-- `spell::encode` meets its contract: each arm is a row of the table. Assumes nothing.
+use native.Mathlib.Omega.{arith}
+use mathlib.Core.Path.{_≡_, refl, sym, _∙_, ap}
+use Prim.Native.Nat.{_≤_}
+use lib.ListN.{take}
+use Rattle.program.specs.declared.Op.{Op}
+use Rattle.words.specs.Words.{word, kindIs, operands}
+use Rattle.spell.specs.declared.Coded.{Coded}
+use Rattle.spell.specs.Coded.{IsCoded}
 use borrow.Author.Needs.{needs}
-use Rattle.words.proofs.encode.Statement.{statement}
-use Rattle.words.proofs.encode.Tie as tie
-use Rattle.words.proofs.encode.Reads as reads
-use Rattle.words.proofs.encode.Lts as lts
+use Rattle.spell.proofs.encode.Statement.{statement}
+use Rattle.spell.proofs.encode.Tie as tie
+use Rattle.spell.proofs.encode.Reads as reads
+use Rattle.spell.proofs.encode.Lts as lts
 
--- src/lib.rt:303:16
 enum-known-o : tie.Need-enum-known-o
 enum-known-o c = search needs
 
--- src/lib.rt:309:16
 enum-known-o-2 : tie.Need-enum-known-o-2
 enum-known-o-2 c = search needs
 
--- src/lib.rt:315:16
 enum-known-o-3 : tie.Need-enum-known-o-3
 enum-known-o-3 c = search needs
 
--- src/lib.rt:321:17
 enum-known-o-4 : tie.Need-enum-known-o-4
 enum-known-o-4 c = search needs
 
--- src/lib.rt:327:17
 enum-known-o-5 : tie.Need-enum-known-o-5
 enum-known-o-5 c = search needs
 
--- src/lib.rt:335:19
 enum-told : tie.Need-enum-told
 enum-told c = search needs
 
--- src/lib.rt:341:19
 enum-told-2 : tie.Need-enum-told-2
 enum-told-2 c = search needs
 
--- src/lib.rt:345:16
 enum-known-o-6 : tie.Need-enum-known-o-6
 enum-known-o-6 c = search needs
 
--- src/lib.rt:351:16
 enum-known-o-7 : tie.Need-enum-known-o-7
 enum-known-o-7 c = search needs
 
--- src/lib.rt:357:16
 enum-known-o-8 : tie.Need-enum-known-o-8
 enum-known-o-8 c = search needs
 
--- src/lib.rt:299:1
+-- by the instruction that it is
+coded : (o p : Op) (r : Coded) → o ≡ p → r .width ≤ 3 → r .count ≤ 6 → take (r .width) (r .word) ≡ word (kindIs p)
+    → take (r .count) (r .vals) ≡ operands p → IsCoded o r
+coded o p r e w n a b = record { width = w; count = n; word-is = a ∙ ap (λ (x : Op). word (kindIs x)) (sym e); vals-are = b ∙ ap operands (sym e) }
+
 returns : tie.Need-returns
-returns c = ?
+returns c = coded _ _ _ (c .before .o .given .1) (omega arith) (omega arith) refl refl
 
--- src/lib.rt:299:1
 returns-2 : tie.Need-returns-2
-returns-2 c = ?
+returns-2 c = coded _ _ _ (c .before .o2 .given .1) (omega arith) (omega arith) refl refl
 
--- src/lib.rt:299:1
 returns-3 : tie.Need-returns-3
-returns-3 c = ?
+returns-3 c = coded _ _ _ (c .before .o3 .given .1) (omega arith) (omega arith) refl refl
 
--- src/lib.rt:299:1
 returns-4 : tie.Need-returns-4
-returns-4 c = ?
+returns-4 c = coded _ _ _ (c .before .o4 .given .1) (omega arith) (omega arith) refl refl
 
--- src/lib.rt:299:1
 returns-5 : tie.Need-returns-5
-returns-5 c = ?
+returns-5 c = coded _ _ _ (c .before .o5 .given .1) (omega arith) (omega arith) refl refl
 
--- src/lib.rt:299:1
 returns-6 : tie.Need-returns-6
 returns-6 c = search needs
 
--- src/lib.rt:299:1
 returns-7 : tie.Need-returns-7
 returns-7 c = search needs
 
--- src/lib.rt:299:1
 returns-8 : tie.Need-returns-8
-returns-8 c = ?
+returns-8 c = coded _ _ _ (c .before .o6 .given .1) (omega arith) (omega arith) refl refl
 
--- src/lib.rt:299:1
 returns-9 : tie.Need-returns-9
-returns-9 c = ?
+returns-9 c = coded _ _ _ (c .before .o7 .given .1) (omega arith) (omega arith) refl refl
 
--- src/lib.rt:299:1
 returns-10 : tie.Need-returns-10
-returns-10 c = ?
+returns-10 c = coded _ _ _ (c .before .o8 .given .1) (omega arith) (omega arith) refl refl
 
 pub encode-spec : {M : Type 1} → statement M
 encode-spec =

@@ -1,47 +1,94 @@
+-- `spell::put_op` meets its contract: its three pieces stand one behind the other. Assumes nothing.
+use native.Mathlib.Omega.{arith}
+use mathlib.Core.Path.{_≡_, refl, sym, _∙_, ap}
+use mathlib.Core.List.{List, [], _∷_, _++_}
+use Prim.Native.Nat.{ℕ, _+_, _≤_}
+use lib.ListN.{length, take}
+use lib.Seq.{length-take-le}
+use Rattle.number.specs.Put.{put}
+use Rattle.words.specs.Words.{word, kindIs, operands}
+use Rattle.words.specs.Op.{opKey, opText}
+use Rattle.number.proofs.Put.{put-three}
+use Rattle.line.specs.Join.{commaed}
+use Rattle.spell.proofs.Pieces.{op-pieces, op-length}
 use borrow.Author.Needs.{needs}
-use Rattle.words.proofs.put_op.Statement.{statement}
-use Rattle.words.proofs.put_op.Tie as tie
-use Rattle.words.proofs.put_op.Reads as reads
-use Rattle.words.proofs.put_op.Lts as lts
-use Rattle.line.proofs.put_values.Reads as put-values-reads
+use Rattle.spell.proofs.put_op.Statement.{statement}
+use Rattle.spell.proofs.put_op.Tie as tie
+use Rattle.spell.proofs.put_op.Reads as reads
+use Rattle.spell.proofs.put_op.Lts as lts
+use Rattle.spell.proofs.encode.Reads as encode-reads
 use Rattle.number.proofs.put_bytes.Reads as put-bytes-reads
-use Rattle.words.proofs.encode.Reads as encode-reads
+use Rattle.line.proofs.put_values.Reads as put-values-reads
 
--- src/lib.rt:371:9
 encode-requires : tie.Need-encode-requires
 encode-requires c κs = search needs
 
--- src/lib.rt:374:40
 slice-aggregate-put-bytes : tie.Need-slice-aggregate-put-bytes
 slice-aggregate-put-bytes c = search needs
 
--- src/lib.rt:374:9
 put-bytes-requires : tie.Need-put-bytes-requires
-put-bytes-requires c κs = ?
+put-bytes-requires c κs = omega (arith, op-length (c .before .before .before .before .before .args .o))
 
--- src/lib.rt:375:39
 array-share-prefix-w : tie.Need-array-share-prefix-w
-array-share-prefix-w c = ?
+array-share-prefix-w c =
+    let e = c .before .before .before .before .before .before .before .encode in
+    let h : length (e .result .word) ≡ 3 = search needs in
+    omega (arith, e .ensures .width)
 
--- src/lib.rt:375:39
 slice-aggregate-put-bytes-2 : tie.Need-slice-aggregate-put-bytes-2
-slice-aggregate-put-bytes-2 c = ?
+slice-aggregate-put-bytes-2 c =
+    let e = c .before .before .before .before .before .before .before .before .encode in
+    let h : length (e .result .word) ≡ 3 = search needs in
+    sym (length-take-le (e .result .width) (e .result .word) (omega (arith, e .ensures .width)))
 
--- src/lib.rt:375:9
 put-bytes-requires-2 : tie.Need-put-bytes-requires-2
-put-bytes-requires-2 c κs = ?
+put-bytes-requires-2 c κs =
+    let a = c .before .before .before .before .before .before .before .before .before .before .args in
+    let e = c .before .before .before .before .before .before .before .before .encode in
+    let p = c .before .before .before .before .put-bytes in
+    omega (arith, op-length (a .o), ap length (e .ensures .word-is), p .ensures .0, p .kept .0, c .before .before .before .before .before .before .before .before .before .before .pre)
 
--- src/lib.rt:377:5
 put-values-requires : tie.Need-put-values-requires
-put-values-requires c κs = ?
+put-values-requires c κs =
+    let a = c .before .before .before .before .before .before .before .before .before .before .before .before .before .before .before .args in
+    let e = c .before .before .before .before .before .before .before .before .before .before .before .before .before .encode in
+    let p = c .before .before .before .before .before .before .before .before .before .put-bytes in
+    let q = c .before .before .before .before .put-bytes2 in (
+      omega arith,
+      e .ensures .count,
+      omega (
+        arith,
+        op-length (a .o),
+        ap length (e .ensures .word-is),
+        ap (λ l. length (commaed l)) (e .ensures .vals-are),
+        p .ensures .0,
+        p .kept .0,
+        q .ensures .0,
+        q .kept .0,
+        c .before .before .before .before .before .before .before .before .before .before .before .before .before .before .before .pre,
+      ),
+    )
 
--- src/lib.rt:367:1
 same-length : tie.Need-same-length
 same-length c = search needs
 
--- src/lib.rt:367:1
 returns : tie.Need-returns
-returns c = ?
+returns c =
+    let s = c .before .before .before .before .before .before .before .before .before .before .before .before .before .before .before .before .before .before in
+    let a = s .args in
+    let e = c .before .before .before .before .before .before .before .before .before .before .before .before .before .before .before .before .encode in
+    let p = c .before .before .before .before .before .before .before .before .before .before .before .before .put-bytes in
+    let q = c .before .before .before .before .before .before .before .put-bytes2 in
+    let v = c .before .before .put-values in
+    let w = word (kindIs (a .o)) in
+    let o = commaed (operands (a .o)) in
+    let x : length (take (e .result .width) (e .result .word)) ≡ length w = ap length (e .ensures .word-is) in
+    let y : length (commaed (take (e .result .count) (e .result .vals))) ≡ length o = ap (λ l. length (commaed l)) (e .ensures .vals-are) in
+    let t = put-three (a .buf .now) (p .last .0) (q .last .0) (v .last .0) (a .at) (p .result) (q .result) (v .result) (111 ∷ 112 ∷ 61 ∷ []) w o
+    (omega (arith, ap length (op-pieces (a .o)), s .pre)) (p .ensures .1) (p .ensures .0)
+    (q .ensures .1 ∙ ap (put (p .last .0) (p .result)) (e .ensures .word-is)) (omega (arith, q .ensures .0, x))
+    (v .ensures .1 ∙ ap (λ l. put (q .last .0) (q .result) (commaed l)) (e .ensures .vals-are)) (omega (arith, v .ensures .0, y)) in
+    rw (op-pieces (a .o)) t
 
 pub put-op-spec : {M : Type 1} → statement M
 put-op-spec =

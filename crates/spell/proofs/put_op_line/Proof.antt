@@ -1,30 +1,42 @@
+-- `spell::put_op_line` meets its contract. Assumes nothing.
+use native.Mathlib.Omega.{arith}
+use mathlib.Core.Path.{_≡_, refl, sym, _∙_, ap}
+use mathlib.Core.List.{List, [], _∷_, _++_}
+use Prim.Native.Nat.{ℕ, _≤_, _<_, _-_, _+_}
+use lib.ListN.{length, length-append}
+use Rattle.words.specs.Op.{opText}
+use Rattle.number.proofs.Put.{put-then}
 use borrow.Author.Needs.{needs}
-use Rattle.words.proofs.put_op_line.Statement.{statement}
-use Rattle.words.proofs.put_op_line.Tie as tie
-use Rattle.words.proofs.put_op_line.Reads as reads
-use Rattle.words.proofs.put_op_line.Lts as lts
+use Rattle.spell.proofs.put_op_line.Statement.{statement}
+use Rattle.spell.proofs.put_op_line.Tie as tie
+use Rattle.spell.proofs.put_op_line.Reads as reads
+use Rattle.spell.proofs.put_op_line.Lts as lts
 use Rattle.number.proofs.put_bytes.Reads as put-bytes-reads
-use Rattle.words.proofs.put_op.Reads as put-op-reads
+use Rattle.spell.proofs.put_op.Reads as put-op-reads
 
--- src/lib.rt:386:9
 put-op-requires : tie.Need-put-op-requires
-put-op-requires c κs = ?
+put-op-requires c κs = omega (arith, length-append (opText (c .before .before .args .o)) (10 ∷ []))
 
--- src/lib.rt:387:31
 slice-aggregate-put-bytes : tie.Need-slice-aggregate-put-bytes
 slice-aggregate-put-bytes c = search needs
 
--- src/lib.rt:387:5
 put-bytes-requires : tie.Need-put-bytes-requires
-put-bytes-requires c κs = ?
+put-bytes-requires c κs =
+    let a = c .before .before .before .before .before .before .before .args in
+    let p = c .before .before .before .before .put-op in
+    omega (arith, length-append (opText (a .o)) (10 ∷ []), p .ensures .0, p .kept .0, c .before .before .before .before .before .before .before .pre)
 
--- src/lib.rt:381:1
 same-length : tie.Need-same-length
 same-length c = search needs
 
--- src/lib.rt:381:1
 returns : tie.Need-returns
-returns c = ?
+returns c =
+    let a = c .before .before .before .before .before .before .before .before .before .before .args in
+    let p = c .before .before .before .before .before .before .before .put-op in
+    let r = c .before .before .put-bytes in (
+      omega (arith, length-append (opText (a .o)) (10 ∷ []), p .ensures .0, r .ensures .0),
+      r .ensures .1 ∙ put-then (a .buf .now) (p .last .0) (a .at) (p .result) (opText (a .o)) (10 ∷ []) (c .before .before .before .before .before .before .before .before .before .before .pre) (p .ensures .1) (p .ensures .0),
+    )
 
 pub put-op-line-spec : {M : Type 1} → statement M
 put-op-line-spec =

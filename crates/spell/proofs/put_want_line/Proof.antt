@@ -1,72 +1,61 @@
+-- `spell::put_want_line` meets its contract. Assumes nothing.
+use native.Mathlib.Omega.{arith}
+use mathlib.Core.Path.{_≡_, sym, _∙_, ap}
+use mathlib.Core.List.{List}
+use Prim.Native.Nat.{ℕ, _+_}
+use lib.ListN.{length}
+use Rattle.number.specs.Put.{put}
+use Rattle.spell.proofs.Pieces.{wanted-all, want-pieces}
 use borrow.Author.Needs.{needs}
-use Rattle.words.proofs.put_want_line.Statement.{statement}
-use Rattle.words.proofs.put_want_line.Tie as tie
-use Rattle.words.proofs.put_want_line.Reads as reads
-use Rattle.words.proofs.put_want_line.Lts as lts
-use Rattle.line.proofs.put_values.Reads as put-values-reads
-use Rattle.line.proofs.wide.Reads as wide-reads
+use Rattle.spell.proofs.put_want_line.Statement.{statement}
+use Rattle.spell.proofs.put_want_line.Tie as tie
+use Rattle.spell.proofs.put_want_line.Reads as reads
+use Rattle.spell.proofs.put_want_line.Lts as lts
 use Rattle.number.proofs.put_bytes.Reads as put-bytes-reads
-use Rattle.number.proofs.put_number.Reads as put-number-reads
+use Rattle.spell.proofs.put_wanted.Reads as put-wanted-reads
 
--- src/lib.rt:398:43
 slice-aggregate-put-bytes : tie.Need-slice-aggregate-put-bytes
 slice-aggregate-put-bytes c = search needs
 
--- src/lib.rt:398:9
 put-bytes-requires : tie.Need-put-bytes-requires
-put-bytes-requires c κs = ?
+put-bytes-requires c κs =
+    let s = c .before .before .before .before in
+    omega (arith, ap length (wanted-all (s .args .w) (c .before .before .if1 .taken)), s .pre .1)
 
--- src/lib.rt:398:9
 same-length : tie.Need-same-length
 same-length c = search needs
 
--- src/lib.rt:398:9
 returns : tie.Need-returns
-returns c = ?
+returns c =
+    let a = c .before .before .before .before .before .before .before .args in
+    let p = c .before .before .put-bytes in
+    let e = sym (wanted-all (a .w) (c .before .before .before .before .before .if1 .taken)) in
+    (p .ensures .0 ∙ ap (λ (l : List ℕ). a .at + length l) e, p .ensures .1 ∙ ap (put (a .buf .now) (a .at)) e)
 
--- src/lib.rt:401:13
 cast-n : tie.Need-cast-n
 cast-n c = search needs
 
--- src/lib.rt:402:40
-slice-aggregate-put-bytes-2 : tie.Need-slice-aggregate-put-bytes-2
-slice-aggregate-put-bytes-2 c = search needs
+put-wanted-requires : tie.Need-put-wanted-requires
+put-wanted-requires c κs =
+    let s = c .before .before .before .before .before in
+    let w = s .args .w in
+    let h = s .pre .0 (c .before .before .before .if1 .left) in
+    let l : length (w .values) ≡ 6 = search needs in
+    let e = want-pieces w (c .before .before .before .if1 .left) (h .0) (omega arith) in
+    (h .0, h .1, omega (arith, ap length e, s .pre .1))
 
--- src/lib.rt:402:9
-put-bytes-requires-2 : tie.Need-put-bytes-requires-2
-put-bytes-requires-2 c κs = ?
-
--- src/lib.rt:403:51
-array-read-wide : tie.Need-array-read-wide
-array-read-wide c = search needs
-
--- src/lib.rt:403:40
-wide-requires : tie.Need-wide-requires
-wide-requires c κs = search needs
-
--- src/lib.rt:403:9
-put-number-requires : tie.Need-put-number-requires
-put-number-requires c κs = ?
-
--- src/lib.rt:404:9
-put-values-requires : tie.Need-put-values-requires
-put-values-requires c κs = ?
-
--- src/lib.rt:405:31
-slice-aggregate-put-bytes-3 : tie.Need-slice-aggregate-put-bytes-3
-slice-aggregate-put-bytes-3 c = search needs
-
--- src/lib.rt:405:5
-put-bytes-requires-3 : tie.Need-put-bytes-requires-3
-put-bytes-requires-3 c κs = ?
-
--- src/lib.rt:391:1
 same-length-2 : tie.Need-same-length-2
 same-length-2 c = search needs
 
--- src/lib.rt:391:1
 returns-2 : tie.Need-returns-2
-returns-2 c = ?
+returns-2 c =
+    let s = c .before .before .before .before .before .before .before .before in
+    let a = s .args in
+    let h = s .pre .0 (c .before .before .before .before .before .before .if1 .left) in
+    let l : length (a .w .values) ≡ 6 = search needs in
+    let p = c .before .before .put-wanted in
+    let e = want-pieces (a .w) (c .before .before .before .before .before .before .if1 .left) (h .0) (omega arith) in
+    (p .ensures .0 ∙ ap (λ (l : List ℕ). a .at + length l) e, p .ensures .1 ∙ ap (put (a .buf .now) (a .at)) e)
 
 pub put-want-line-spec : {M : Type 1} → statement M
 put-want-line-spec =
@@ -77,13 +66,6 @@ put-want-line-spec =
     same-length
     returns
     cast-n
-    slice-aggregate-put-bytes-2
-    put-bytes-requires-2
-    array-read-wide
-    wide-requires
-    put-number-requires
-    put-values-requires
-    slice-aggregate-put-bytes-3
-    put-bytes-requires-3
+    put-wanted-requires
     same-length-2
     returns-2)
