@@ -1,49 +1,55 @@
 -- What was read and is accepted is legal: its instructions keep their limits and no bz passes over its thread's end. Assumes nothing.
-use Prim.Native.Nat.{ℕ, _+_, _-_, _≤_}
+use Prim.Native.Nat.{ℕ, _+_, _-_, _<_, _≤_}
 use mathlib.Core.Path.{_≡_, refl, ap, _∙_}
 use mathlib.Core.Bool.{Bool, true, false, _&&_}
 use mathlib.Core.Option.{Option, none, some}
 use mathlib.Core.List.{List, [], _∷_, _++_, map}
 use native.Mathlib.Omega.{arith}
-use borrow.Author.Tests.{le-leb, leb-true}
+use borrow.Author.Tests.{le-leb, leb-true, ltb-false}
 use lib.Dec.{leb}
 use lib.ListN.{length, take, replicate}
 use Rattle.names.specs.Names.{threads, pick}
 use Rattle.tables.specs.Tables.{padded}
 use Rattle.tables.proofs.Packed.{lengths}
 use Rattle.program.specs.declared.Op.{Op}
+use Rattle.program.specs.declared.Op.the-variants.{St, Sr, Ld, Cas, Faa, Mf, Sf, Fl, Fo, Bz}
 use Rattle.program.specs.Program.{Prog, progOf, countsOf, mostOps}
 use Rattle.program.specs.Legal.{legalOp, legalOps, legalThreads, legalSizes, legalProg, allBelow, legal}
 use Rattle.program.proofs.Tests.{both, sizes}
-use Rattle.question.specs.Question.{holding, programOf, Short}
+use Rattle.words.specs.Op.{Within}
+use Rattle.words.proofs.Legal.{Lands, within-legal}
+use Rattle.question.specs.Question.{Short, AllWithin, ThreadsWithin, holding, programOf}
 use Rattle.question.specs.Past.{leaps, pastIn, past, orElse}
 use Rattle.question.proofs.Made.{prog-back}
 
--- an instruction that keeps every limit but that of its thread's end
-abbrev pub Fit : ℕ → Op → Type 0
-Fit locs o = (k : ℕ) → leaps k o ≡ false → legalOp locs k o ≡ true
-
-abbrev pub AllFit : ℕ → List Op → Type 0
-AllFit locs [] = Unit {0}
-AllFit locs (o ∷ os) = Fit locs o × AllFit locs os
-
--- threads of such instructions, none too long
-abbrev pub Threads : ℕ → List (List Op) → Type 0
-Threads locs [] = Unit {0}
-Threads locs (os ∷ oss) = ((length os ≤ mostOps) × AllFit locs os) × Threads locs oss
-
-pub fit-last : (locs : ℕ) (os : List Op) (o : Op) → AllFit locs os → Fit locs o → AllFit locs (os ++ o ∷ [])
-fit-last locs [] o a f = (f, tt)
-fit-last locs (x ∷ os) o a f = (a .0, fit-last locs os o (a .1) f)
+-- one more instruction, and one more thread
+pub within-last : (locs : ℕ) (os : List Op) (o : Op) → AllWithin locs os → Within locs o → AllWithin locs (os ++ o ∷ [])
+within-last locs [] o a f = (f, tt)
+within-last locs (x ∷ os) o a f = (a .0, within-last locs os o (a .1) f)
 
 pub threads-last :
-    (locs : ℕ) (oss : List (List Op)) (os : List Op) → Threads locs oss → length os ≤ mostOps → AllFit locs os → Threads locs (oss ++ os ∷ [])
-threads-last locs [] os t h a = ((h, a), tt)
-threads-last locs (x ∷ oss) os t h a = (t .0, threads-last locs oss os (t .1) h a)
+    (locs : ℕ) (oss : List (List Op)) (os : List Op) → ThreadsWithin locs oss → length os ≤ mostOps → AllWithin locs os
+    → ThreadsWithin locs (oss ++ os ∷ [])
+threads-last locs [] os t h a = (h, a, tt)
+threads-last locs (x ∷ oss) os t h a = (t .0, t .1, threads-last locs oss os (t .2) h a)
 
-pub threads-short : (locs : ℕ) (oss : List (List Op)) → Threads locs oss → Short oss
-threads-short locs [] t = tt
-threads-short locs (os ∷ oss) t = (t .0 .0, threads-short locs oss (t .1))
+pub within-short : (locs : ℕ) (oss : List (List Op)) → ThreadsWithin locs oss → Short oss
+within-short locs [] t = tt
+within-short locs (os ∷ oss) t = (t .0, within-short locs oss (t .2))
+
+-- a bz that passes over no more than what follows it, told by the test
+lands : (k : ℕ) (o : Op) → leaps k o ≡ false → Lands k o
+unfolding leaps
+lands k (St l v) e = tt
+lands k (Sr l r) e = tt
+lands k (Ld r l) e = tt
+lands k (Cas r l v n) e = tt
+lands k (Faa r l v) e = tt
+lands k Mf e = tt
+lands k Sf e = tt
+lands k (Fl l) e = tt
+lands k (Fo l) e = tt
+lands k (Bz r n) e = ltb-false k n e
 
 -- where no bz passes over its thread's end, they are legal
 pub and-true : (a b : Bool) → a ≡ true → b ≡ true → a && b ≡ true
@@ -58,21 +64,22 @@ unfolding pick
 pick-none true n b e = let z : _≡_ {A = ℕ} 0 1 = cc in absurd (omega arith)
 pick-none false n b e = (refl, e)
 
-ops-legal : (locs n : ℕ) (os : List Op) → AllFit locs os → pastIn n os ≡ none → legalOps locs os ≡ true
+ops-legal : (locs n : ℕ) (os : List Op) → 0 < locs → AllWithin locs os → pastIn n os ≡ none → legalOps locs os ≡ true
 unfolding pastIn legalOps
-ops-legal locs n [] a e = refl
-ops-legal locs n (o ∷ os) a e =
+ops-legal locs n [] p a e = refl
+ops-legal locs n (o ∷ os) p a e =
     let f = pick-none (leaps (length os) o) n (pastIn (n + 1) os) e in
-    and-true (legalOp locs (length os) o) (legalOps locs os) (a .0 (length os) (f .0)) (ops-legal locs (n + 1) os (a .1) (f .1))
+    and-true (legalOp locs (length os) o) (legalOps locs os) (within-legal locs (length os) o p (a .0) (lands (length os) o (f .0)))
+    (ops-legal locs (n + 1) os p (a .1) (f .1))
 
-pub threads-legal : (locs n : ℕ) (oss : List (List Op)) → Threads locs oss → past n oss ≡ none → legalThreads locs oss ≡ true
+pub threads-legal : (locs n : ℕ) (oss : List (List Op)) → 0 < locs → ThreadsWithin locs oss → past n oss ≡ none → legalThreads locs oss ≡ true
 unfolding past legalThreads
-threads-legal locs n [] t e = refl
-threads-legal locs n (os ∷ oss) t e =
+threads-legal locs n [] p t e = refl
+threads-legal locs n (os ∷ oss) p t e =
     let f = or-none (pastIn (n + 1) os) (past (n + 1 + length os) oss) e in
     and-true (leb (length os) mostOps && legalOps locs os) (legalThreads locs oss)
-    (and-true (leb (length os) mostOps) (legalOps locs os) (le-leb (length os) mostOps (t .0 .0)) (ops-legal locs (n + 1) os (t .0 .1) (f .0)))
-    (threads-legal locs (n + 1 + length os) oss (t .1) (f .1))
+    (and-true (leb (length os) mostOps) (legalOps locs os) (le-leb (length os) mostOps (t .0)) (ops-legal locs (n + 1) os p (t .1) (f .0)))
+    (threads-legal locs (n + 1 + length os) oss p (t .2) (f .1))
 
 -- legal threads are short
 pub legal-short : (locs : ℕ) (oss : List (List Op)) → legalThreads locs oss ≡ true → Short oss

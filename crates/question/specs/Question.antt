@@ -13,6 +13,7 @@ use Rattle.program.specs.declared.Program.{Program}
 use Rattle.program.specs.declared.Question.{Question}
 use Rattle.program.specs.Program.{Prog, Wanted, mostOps}
 use Rattle.program.specs.Program.Wanted.{all}
+use Rattle.words.specs.Op.{Within}
 use Rattle.words.specs.Want.{wantOf}
 
 -- what a text asks
@@ -28,6 +29,16 @@ cellOf o = record { op = o }
 abbrev pub Short : List (List Op) → Type 0
 Short [] = Unit {0}
 Short (os ∷ oss) = (length os ≤ mostOps) × Short oss
+
+-- each operand of these instructions is in its range
+abbrev pub AllWithin : ℕ → List Op → Type 0
+AllWithin locs [] = Unit {0}
+AllWithin locs (o ∷ os) = Within locs o × AllWithin locs os
+
+-- the same of threads, of which none is too long
+abbrev pub ThreadsWithin : ℕ → List (List Op) → Type 0
+ThreadsWithin locs [] = Unit {0}
+ThreadsWithin locs (os ∷ oss) = (length os ≤ mostOps) × AllWithin locs os × ThreadsWithin locs oss
 
 -- the slots of four threads, of which those behind the last one have no instructions
 abbrev pub fourOf : List (List Op) → List (List Op)

@@ -17,12 +17,13 @@ use Rattle.line.specs.Line.{numberLine}
 use Rattle.line.proofs.Lines.{number-line-is}
 use Rattle.words.specs.declared.OpLine.{OpLine}
 use Rattle.words.specs.declared.OpLine.the-variants as op
-use Rattle.words.specs.Op.{opKey, opLine, Within}
+use Rattle.words.specs.Op.{opKey, opLine}
 use Rattle.words.specs.Want.{WantLine, shape, limit, fine, wantLine}
 use Rattle.words.proofs.Op.{op-is}
 use Rattle.words.proofs.Want.{want-is}
+use Rattle.question.proofs.Lawful.{within-last, threads-last}
 use Rattle.text.specs.Read.{Head, So, nothing, threaded, located, budgeted, wanting, inside, Step, fault, next, step, onNumber, onWant, onOp, onTurn, threadsKey, locsKey, budgetKey, threadLine}
-use Rattle.text.specs.Packed.{AllWithin, ThreadsWithin, HeadFits, BodyFits, Valid}
+use Rattle.text.specs.Packed.{BodyFits, Valid}
 
 -- what a line that goes on was
 pub on-number : (f : Field) (k : ℕ → So) (u : So) → onNumber f k ≡ next u → (n : ℕ) × (f ≡ field.Fine n) × (k n ≡ u)
@@ -81,17 +82,6 @@ on-body h done ops l u e = go (begins opKey l) e
         let f = on-op (opLine (h .locs) l) ops (λ o. inside h done (ops ++ o ∷ [])) u e in
         joins (f .0) (f .1) (f .2) (f .3)
     go false e = later (ltb (length done + 1) (h .threads)) refl e
-
--- one more instruction, and one more thread
-pub within-last : (locs : ℕ) (os : List Op) (o : Op) → AllWithin locs os → Within locs o → AllWithin locs (os ++ o ∷ [])
-within-last locs [] o a f = (f, tt)
-within-last locs (x ∷ os) o a f = (a .0, within-last locs os o (a .1) f)
-
-pub threads-last :
-    (locs : ℕ) (oss : List (List Op)) (os : List Op) → ThreadsWithin locs oss → length os ≤ mostOps → AllWithin locs os
-    → ThreadsWithin locs (oss ++ os ∷ [])
-threads-last locs [] os t h a = (h, a, tt)
-threads-last locs (x ∷ oss) os t h a = (t .0, t .1, threads-last locs oss os (t .2) h a)
 
 body-keeps : (h : Head) (done : List (List Op)) (ops : List Op) (l : List ℕ) (u : So) → BodyFits h done ops → Goes h done ops l u → Valid u
 body-keeps h done ops l u v (joins o q room e) =

@@ -1,56 +1,24 @@
 -- What is accepted is legal: the program keeps every limit of document 01, and so do the budget and what is wanted. Assumes nothing.
-use Prim.Native.Nat.{ℕ, _+_, _-_, _<_, _≤_}
+use Prim.Native.Nat.{ℕ, _+_, _≤_}
 use mathlib.Core.Path.{_≡_, refl, ap, sym, subst, _∙_}
 use mathlib.Core.Bool.{Bool, true, false, _&&_}
 use mathlib.Core.Option.{Option, none, some}
 use mathlib.Core.List.{List, [], _∷_, _++_}
 use native.Mathlib.Omega.{arith}
-use borrow.Author.Tests.{lt-ltb, le-leb, ltb-false, eqb-true}
+use borrow.Author.Tests.{le-leb, ltb-false, eqb-true}
 use lib.Dec.{ltb, leb, eqb}
 use lib.ListN.{length, length-append}
-use Rattle.names.specs.Names.{pick, threads, locations, registers, mostRuns, isReg, isBudget}
+use Rattle.names.specs.Names.{pick, threads, locations, mostRuns, isBudget}
 use Rattle.program.specs.declared.Op.{Op}
-use Rattle.program.specs.declared.Op.the-variants.{St, Sr, Ld, Cas, Faa, Mf, Sf, Fl, Fo, Bz}
-use Rattle.program.specs.Program.{Wanted, mostOps}
-use Rattle.program.specs.Legal.{legalOp, legalThreads, legalSizes, legalProg, legal, legalAsked}
+use Rattle.program.specs.Legal.{legalThreads, legalSizes, legalProg, legal, legalAsked}
 use Rattle.line.specs.Split.{split, lineFeed}
-use Rattle.words.specs.Op.{Within}
 use Rattle.words.specs.Want.{WantFits}
-use Rattle.question.specs.Question.{Asked, programOf, questionOf}
-use Rattle.question.specs.Past.{leaps, past, firstThread}
-use Rattle.question.proofs.Lawful.{Fit, AllFit, Threads, and-true, threads-legal, made-legal}
+use Rattle.question.specs.Question.{Asked, ThreadsWithin, programOf, questionOf}
+use Rattle.question.specs.Past.{past, firstThread}
+use Rattle.question.proofs.Lawful.{and-true, threads-last, threads-legal, made-legal}
 use Rattle.text.specs.Read.{Head, So, nothing, threaded, located, budgeted, wanting, inside, Step, fault, next, step, Outcome, refused, accepted, askedOf, onPast, end, onStep, readParts, mostBytes, readText}
-use Rattle.text.specs.Packed.{AllWithin, ThreadsWithin, HeadFits, BodyFits, Valid}
-use Rattle.text.proofs.Keeps.{threads-last, valid-step}
-
--- an instruction whose operands are in their ranges keeps every limit but that of its thread's end
-below : (locs u : ℕ) → 0 < locs → u ≤ locs - 1 → ltb u locs ≡ true
-below locs u pos h = lt-ltb u locs (omega arith)
-
-pub within-fit : (locs : ℕ) (o : Op) → 0 < locs → Within locs o → Fit locs o
-unfolding leaps legalOp
-within-fit locs (St l v) pos w k q = below locs (l .0) pos (w .1)
-within-fit locs (Sr l r) pos w k q = and-true (ltb (l .0) locs) (isReg (r .0)) (below locs (l .0) pos (w .1)) (lt-ltb (r .0) registers (omega (arith, w .2 .1)))
-within-fit locs (Ld r l) pos w k q = and-true (isReg (r .0)) (ltb (l .0) locs) (lt-ltb (r .0) registers (omega (arith, w .1))) (below locs (l .0) pos (w .2 .1))
-within-fit locs (Cas r l e n) pos w k q = and-true (isReg (r .0)) (ltb (l .0) locs) (lt-ltb (r .0) registers (omega (arith, w .1))) (below locs (l .0) pos (w .2 .1))
-within-fit locs (Faa r l v) pos w k q = and-true (isReg (r .0)) (ltb (l .0) locs) (lt-ltb (r .0) registers (omega (arith, w .1))) (below locs (l .0) pos (w .2 .1))
-within-fit locs Mf pos w k q = refl
-within-fit locs Sf pos w k q = refl
-within-fit locs (Fl l) pos w k q = below locs (l .0) pos (w .1)
-within-fit locs (Fo l) pos w k q = below locs (l .0) pos (w .1)
-within-fit locs (Bz r n) pos w k q =
-    and-true (isReg (r .0) && leb 1 n && leb n mostOps) (leb n k)
-    (and-true (isReg (r .0) && leb 1 n) (leb n mostOps)
-    (and-true (isReg (r .0)) (leb 1 n) (lt-ltb (r .0) registers (omega (arith, w .1))) (le-leb 1 n (w .2 .0))) (le-leb n mostOps (w .2 .1)))
-    (le-leb n k (ltb-false k n q))
-
-all-fit : (locs : ℕ) (os : List Op) → 0 < locs → AllWithin locs os → AllFit locs os
-all-fit locs [] pos w = tt
-all-fit locs (o ∷ os) pos w = (within-fit locs o pos (w .0), all-fit locs os pos (w .1))
-
-threads-fit : (locs : ℕ) (oss : List (List Op)) → 0 < locs → ThreadsWithin locs oss → Threads locs oss
-threads-fit locs [] pos w = tt
-threads-fit locs (os ∷ oss) pos w = ((w .0, all-fit locs os pos (w .1)), threads-fit locs oss pos (w .2))
+use Rattle.text.specs.Packed.{HeadFits, BodyFits, Valid}
+use Rattle.text.proofs.Keeps.{valid-step}
 
 -- a text that is accepted: what its head and its threads keep
 pub record Fitting (a : Asked) : Type 0 where
@@ -136,7 +104,7 @@ module _ (a : Asked) (f : Fitting a) where
   fitting-prog =
       ap (λ (x : Asked). legalSizes (length (x .prog .threads)) (x .prog .locs) && legalThreads (x .prog .locs) (x .prog .threads)) (f .is)
       ∙ and-true (legalSizes (length (f .oss)) (f .head .locs)) (legalThreads (f .head .locs) (f .oss)) fitting-sizes
-      (threads-legal (f .head .locs) firstThread (f .oss) (threads-fit (f .head .locs) (f .oss) (f .fits .locs .0) (f .each)) (f .stays))
+      (threads-legal (f .head .locs) firstThread (f .oss) (f .fits .locs .0) (f .each) (f .stays))
 
   fitting-budget : isBudget (a .budget) ≡ true
   fitting-budget =

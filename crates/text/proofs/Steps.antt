@@ -21,11 +21,12 @@ use Rattle.words.specs.Op.{opKey, opLine}
 use Rattle.words.specs.Want.{WantLine, shape, limit, fine, wantLine, wantOf, packedWant}
 use Rattle.question.specs.Question.{Short, holding, asking}
 use Rattle.question.proofs.Four.{short-last}
+use Rattle.question.proofs.Lawful.{within-short}
 use Rattle.question.proofs.Made.{holding-none, holding-open, holding-joined, holding-threads, holding-locs, holding-count}
 use Rattle.text.specs.declared.State.{State}
 use Rattle.text.specs.declared.Turn.{Turn}
 use Rattle.text.specs.Read.{Head, So, nothing, threaded, located, budgeted, wanting, inside, fault, next, step, onWant, onOp, onTurn, threadLine}
-use Rattle.text.specs.Packed.{stateOf, headed, packed, packedStep, AllWithin, ThreadsWithin, BodyFits, Valid}
+use Rattle.text.specs.Packed.{stateOf, headed, packed, packedStep, BodyFits}
 
 -- a question with no thread yet
 pub asking-none :
@@ -62,11 +63,6 @@ want-read p t n b l r pe e h =
     let f = want-fine (λ w. wanting (record { threads = t; locs = n; budget = b; want = w })) r (wantLine n l) e h in
     ap (λ (x : Want). record { fault = 0; state = stateOf 4 0 (record { program = p; budget = record { 0 = b }; want = x }) }) (f .2)
     ∙ (ap (λ (q : Question). record { fault = 0; state = stateOf 4 0 q }) (asking-none p t n b (f .0) pe) ∙ ap packedStep (sym (f .1)))
-
--- threads whose instructions are in their ranges are short
-pub within-short : (locs : ℕ) (oss : List (List Op)) → ThreadsWithin locs oss → Short oss
-within-short locs [] t = tt
-within-short locs (os ∷ oss) t = (t .0, within-short locs oss (t .2))
 
 -- the first thread line
 pub first-opened : (g : State) (h : Head) → g ≡ packed (wanting h) → stateOf 5 0 (g .question) ≡ packed (inside h [] [])

@@ -8,9 +8,8 @@ use Rattle.program.specs.declared.Op.{Op}
 use Rattle.program.specs.declared.Question.{Question}
 use Rattle.program.specs.Program.{Wanted, mostOps}
 use Rattle.program.specs.Program.Wanted.{all}
-use Rattle.words.specs.Op.{Within}
 use Rattle.words.specs.Want.{WantFits}
-use Rattle.question.specs.Question.{Asked, Short, asking, questionOf}
+use Rattle.question.specs.Question.{Asked, Short, AllWithin, ThreadsWithin, asking, questionOf}
 use Rattle.text.specs.declared.State.{State}
 use Rattle.text.specs.declared.Turn.{Turn}
 use Rattle.text.specs.Read.{Head, So, nothing, threaded, located, budgeted, wanting, inside, Step, fault, next}
@@ -35,16 +34,7 @@ abbrev pub packedStep : Step → Turn
 packedStep (fault k) = record { fault = k; state = packed nothing }
 packedStep (next s) = record { fault = 0; state = packed s }
 
--- each operand of these instructions is in its range
-abbrev pub AllWithin : ℕ → List Op → Type 0
-AllWithin locs [] = Unit {0}
-AllWithin locs (o ∷ os) = Within locs o × AllWithin locs os
-
--- the same of threads, of which none is too long
-abbrev pub ThreadsWithin : ℕ → List (List Op) → Type 0
-ThreadsWithin locs [] = Unit {0}
-ThreadsWithin locs (os ∷ oss) = (length os ≤ mostOps) × AllWithin locs os × ThreadsWithin locs oss
-
+-- a number from lo to hi
 abbrev pub From : ℕ → ℕ → ℕ → Type 0
 From lo hi n = (lo ≤ n) × (n ≤ hi)
 
