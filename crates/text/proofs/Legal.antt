@@ -30,9 +30,9 @@ pub record Fitting (a : Asked) : Type 0 where
   pub each : ThreadsWithin (head .locs) oss
   pub stays : past firstThread oss ≡ none
 
-past-fits : (h : Head) (oss : List (List Op)) (x : Option ℕ) (b a : Asked) → onPast x b ≡ accepted a → (x ≡ none) × (b ≡ a)
-past-fits h oss none b a e = (refl, cc)
-past-fits h oss (some n) b a e = let z : _≡_ {A = ℕ} 0 1 = cc in absurd (omega arith)
+pub past-fits : (x : Option ℕ) (b a : Asked) → onPast x b ≡ accepted a → (x ≡ none) × (b ≡ a)
+past-fits none b a e = (refl, cc)
+past-fits (some n) b a e = let z : _≡_ {A = ℕ} 0 1 = cc in absurd (omega arith)
 
 end-fits : (u : So) (n : ℕ) (l : List ℕ) (a : Asked) → Valid u → end u n l ≡ accepted a → Fitting a
 unfolding pick
@@ -49,7 +49,7 @@ end-fits (inside h done ops) n [] a v e = go (eqb (length done + 1) (h .threads)
         → pick t (onPast (past firstThread (done ++ ops ∷ [])) (askedOf h (done ++ ops ∷ []))) (refused 2 n) ≡ accepted a → Fitting a
     go false q e = let z : _≡_ {A = ℕ} 0 1 = cc in absurd (omega arith)
     go true q e =
-        let f = past-fits h (done ++ ops ∷ []) (past firstThread (done ++ ops ∷ [])) (askedOf h (done ++ ops ∷ [])) a e in
+        let f = past-fits (past firstThread (done ++ ops ∷ [])) (askedOf h (done ++ ops ∷ [])) a e in
         record {
           head = h;
           oss = done ++ ops ∷ [];

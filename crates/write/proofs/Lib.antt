@@ -1,0 +1,4 @@
+-- Laws of the text: what is read is written as the same text; what is written is read; how long it can be.
+pub mod Written
+pub mod Bound
+pub mod Back
