@@ -2,3 +2,4 @@
 pub mod Written
 pub mod Bound
 pub mod Back
+pub mod Round
