@@ -31,16 +31,16 @@ commaed-more v vs = ap suc (length-append (decimal v) (commaed vs))
 
 -- each operand by the digits that it can have
 module _ (a : ℕ) (b c d : ℕ) where
-  one-long : length (commaed (a ∷ [])) ≡ 1 + length (decimal a)
+  pub one-long : length (commaed (a ∷ [])) ≡ 1 + length (decimal a)
   one-long = omega (arith, commaed-more a [], commaed-none)
 
-  two-long : length (commaed (a ∷ b ∷ [])) ≡ 2 + length (decimal a) + length (decimal b)
+  pub two-long : length (commaed (a ∷ b ∷ [])) ≡ 2 + length (decimal a) + length (decimal b)
   two-long = omega (arith, commaed-more a (b ∷ []), commaed-more b [], commaed-none)
 
-  three-long : length (commaed (a ∷ b ∷ c ∷ [])) ≡ 3 + length (decimal a) + length (decimal b) + length (decimal c)
+  pub three-long : length (commaed (a ∷ b ∷ c ∷ [])) ≡ 3 + length (decimal a) + length (decimal b) + length (decimal c)
   three-long = omega (arith, commaed-more a (b ∷ c ∷ []), commaed-more b (c ∷ []), commaed-more c [], commaed-none)
 
-  four-long : length (commaed (a ∷ b ∷ c ∷ d ∷ [])) ≡ 4 + length (decimal a) + length (decimal b) + length (decimal c) + length (decimal d)
+  pub four-long : length (commaed (a ∷ b ∷ c ∷ d ∷ [])) ≡ 4 + length (decimal a) + length (decimal b) + length (decimal c) + length (decimal d)
   four-long =
       omega (arith, commaed-more a (b ∷ c ∷ d ∷ []), commaed-more b (c ∷ d ∷ []), commaed-more c (d ∷ []), commaed-more d [], commaed-none)
 

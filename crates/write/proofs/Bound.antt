@@ -23,11 +23,11 @@ use Rattle.write.specs.Lines.{threadLines, headLines, linesOf, unlines, 
 use Rattle.write.proofs.Written.{unlines-append}
 
 -- a line, its line feed, and the lines behind it
-line-long : (l : List ℕ) (ls : List (List ℕ)) → length (unlines (l ∷ ls)) ≡ length l + 1 + length (unlines ls)
+pub line-long : (l : List ℕ) (ls : List (List ℕ)) → length (unlines (l ∷ ls)) ≡ length l + 1 + length (unlines ls)
 unfolding unlines
 line-long l ls = length-append l (lineFeed ∷ unlines ls) ∙ omega arith
 
-none-long : length (unlines []) ≡ 0
+pub none-long : length (unlines []) ≡ 0
 unfolding unlines
 none-long = refl
 
@@ -37,11 +37,11 @@ ops-long locs [] h w = omega (arith, none-long)
 ops-long locs (o ∷ os) h w = omega (arith, line-long (opText o) (map opText os), op-short locs o h (w .0), ops-long locs os h (w .1))
 
 -- a thread: its line of nine bytes, and eight op lines
-threads-none : (k : ℕ) → length (unlines (threadLines k [])) ≡ 0
+pub threads-none : (k : ℕ) → length (unlines (threadLines k [])) ≡ 0
 unfolding threadLines
 threads-none k = none-long
 
-threads-more :
+pub threads-more :
     (k : ℕ) (os : List Op) (oss : List (List Op))
     → length (unlines (threadLines k (os ∷ oss))) ≡ length (threadKey ++ decimal k) + 1 + (length (unlines (map opText os)) + length (unlines (threadLines (k + 1) oss)))
 unfolding threadLines
