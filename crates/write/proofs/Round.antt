@@ -33,6 +33,7 @@ use Rattle.text.specs.declared.Verdict.the-variants.{Accepted, Refused}
 use Rattle.text.specs.Read.{Outcome, refused, accepted, readText, parsedOf, readOf}
 use Rattle.text.proofs.Legal.{Fitting, accepted-fits}
 use Rattle.write.specs.Lines.{textOf}
+use Rattle.write.specs.Writing.{textIn}
 use Rattle.write.specs.Bytes.{BytesIn, OpsBytes, ThreadsBytes, WantBytes}
 use Rattle.write.proofs.Written.{write-read}
 use Rattle.write.proofs.Back.{read-write}
@@ -98,12 +99,9 @@ legal-fitting p b w h hb hw bytes =
       stays = t .1;
     }
 
--- what a question in memory stands for, and its text
+-- what a question in memory stands for
 abbrev pub standsFor : Question → Asked
 standsFor q = record { prog = progOf (q .program); budget = q .budget .0; want = wantedOf (q .want) }
-
-abbrev pub textIn : Question → List ℕ
-textIn q = textOf (progOf (q .program)) (q .budget .0) (wantedOf (q .want))
 
 -- FIRST: every text that is accepted, read and written again, is the same text
 told-accepted : (o : Outcome) → parsedOf o .verdict ≡ Accepted → (a : Asked) × (o ≡ accepted a) × (parsedOf o .question ≡ questionOf a)

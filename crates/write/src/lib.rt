@@ -1,1 +1,8 @@
-// The text of a question, written: what it is, and that it is read again.
+// The text of a question, written: what it is, that it is read again, and what the door answers. The door is not here yet.
+use px86::Refusal;
+
+// The text's length, or why nothing is written.
+pub enum Wrote {
+    Length(usize),
+    Refused(Refusal),
+}
