@@ -9,7 +9,6 @@ use Rattle.tables.specs.Tables.{padded}
 use Rattle.program.specs.declared.Question.{Question}
 use Rattle.program.specs.Program.{progOf, wantedOf}
 use Rattle.program.specs.Legal.{legalAsked}
-use Rattle.px86.specs.declared.Refusal.{Refusal}
 use Rattle.px86.specs.declared.Refusal.the-variants.{Illegal, WrongWant, TooLong}
 use Rattle.write.specs.declared.Wrote.{Wrote}
 use Rattle.write.specs.declared.Wrote.the-variants.{Length, Refused}
