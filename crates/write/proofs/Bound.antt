@@ -1,5 +1,5 @@
 -- How long a text can be: at most 708 bytes, of which there are texts. Assumes nothing.
-use Prim.Native.Nat.{ℕ, _+_, _*_, _≤_, _<_}
+use Prim.Native.Nat.{ℕ, _+_, _*_, _≤_}
 use mathlib.Core.Path.{_≡_, refl, ap, sym, subst, _∙_}
 use mathlib.Core.List.{List, [], _∷_, _++_, map}
 use native.Mathlib.Omega.{arith}
@@ -7,7 +7,6 @@ use lib.ListN.{length, length-append, replicate}
 use Rattle.names.specs.Names.{locations, threads}
 use Rattle.program.specs.declared.Op.{Op}
 use Rattle.program.specs.declared.Op.the-variants.{Cas}
-use Rattle.program.specs.Program.{Prog, Wanted, mostOps}
 use Rattle.program.specs.Program.Wanted.{one}
 use Rattle.number.specs.Decimal.{digits, decimal}
 use Rattle.number.proofs.Lengths.{digit-short, budget-short}

@@ -3,3 +3,4 @@ pub mod Written
 pub mod Bound
 pub mod Back
 pub mod Round
+pub mod Sizes
