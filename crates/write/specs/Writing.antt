@@ -12,7 +12,6 @@ use Rattle.program.specs.declared.Question.{Question}
 use Rattle.program.specs.Program.{progOf, countsOf, mostOps, wantedOf}
 use Rattle.program.specs.Legal.{allBelow, legalAsked}
 use Rattle.words.specs.Op.{opText}
-use Rattle.px86.specs.declared.Refusal.{Refusal}
 use Rattle.px86.specs.declared.Refusal.the-variants.{Illegal, WrongWant, TooLong}
 use Rattle.write.specs.declared.Wrote.{Wrote}
 use Rattle.write.specs.declared.Wrote.the-variants.{Length, Refused}

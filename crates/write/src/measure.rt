@@ -118,6 +118,6 @@ pub fn text_size(q: Question) -> usize
     let p = q.program;
     let b = q.budget;
     let w = q.want;
-    let head = 26 + number_size(b.0) + want_size(w);
+    let head = 25 + number_size(b.0) + want_size(w);
     head + threads_size(p)
 }

@@ -6,10 +6,6 @@ use Rattle.number.specs.Decimal.{decimal}
 use borrow.Author.Needs.{needs}
 use Rattle.write.proofs.measure.byte_size.Statement.{statement}
 use Rattle.write.proofs.measure.byte_size.Tie as tie
-use Rattle.write.proofs.measure.byte_size.Reads as reads
-use Rattle.write.proofs.measure.byte_size.Lts as lts
-use Rattle.line.proofs.wide.Reads as wide-reads
-use Rattle.write.proofs.measure.number_size.Reads as number-size-reads
 
 wide-requires : tie.Need-wide-requires
 wide-requires c κs = search needs

@@ -1,15 +1,13 @@
 -- `write::measure::number_size` meets its contract. The loop's invariant: the digits that are counted, and those of what is left. The measure
 -- is what is left. Assumes nothing.
 use Prim.Native.Nat.{_+_, _≤_}
-use mathlib.Core.Path.{_≡_, refl}
+use mathlib.Core.Path.{_≡_}
 use native.Mathlib.Omega.{arith}
 use lib.ListN.{length}
 use Rattle.number.specs.Decimal.{decimal}
 use Rattle.number.proofs.Laws.{decimal-small-length, decimal-large-length}
 use Rattle.write.proofs.measure.number_size.Statement.{statement}
 use Rattle.write.proofs.measure.number_size.Tie as tie
-use Rattle.write.proofs.measure.number_size.Reads as reads
-use Rattle.write.proofs.measure.number_size.Lts as lts
 
 abbrev Inv-loop : tie.InvT-loop
 Inv-loop n m₀ k₀ m k = (k + length (decimal m) ≡ length (decimal n) + 1) × (1 ≤ k) × (k + m ≤ n + 1)
@@ -27,13 +25,13 @@ loop-less : tie.Need-loop-less Inv-loop μ-loop
 loop-less c = omega arith
 
 loop-again : tie.Need-loop-again Inv-loop μ-loop
-loop-again c = 
+loop-again c =
     let m = c .before .loop .m in
     let d = decimal-large-length m (c .loop-test .taken) in
     (omega arith, omega arith, omega arith)
 
 returns : tie.Need-returns Inv-loop μ-loop
-returns c = 
+returns c =
     let d = decimal-small-length (c .before .loop .m) (c .loop-test .left) in
     (omega arith, omega arith)
 

@@ -5,9 +5,6 @@ use Rattle.write.proofs.Sizes.{size-none, size-one, size-two, size-thre
 use borrow.Author.Needs.{needs}
 use Rattle.write.proofs.measure.op_size.Statement.{statement}
 use Rattle.write.proofs.measure.op_size.Tie as tie
-use Rattle.write.proofs.measure.op_size.Reads as reads
-use Rattle.write.proofs.measure.op_size.Lts as lts
-use Rattle.write.proofs.measure.byte_size.Reads as byte-size-reads
 
 enum-known-o : tie.Need-enum-known-o
 enum-known-o c = search needs

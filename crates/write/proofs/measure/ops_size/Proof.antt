@@ -1,7 +1,7 @@
 -- `write::measure::ops_size` meets its contract. The loop's invariant: what is counted, and what is left to count. The measure is the number of
 -- instructions left. Assumes nothing.
 use Prim.Native.Nat.{_+_, _*_, _-_, _≤_}
-use mathlib.Core.Path.{_≡_, refl, _∙_}
+use mathlib.Core.Path.{_≡_}
 use native.Mathlib.Omega.{arith}
 use borrow.Author.Needs.{needs}
 use lib.ListN.{length, drop}
@@ -14,9 +14,6 @@ use Rattle.write.specs.Writing.{opsText}
 use Rattle.write.proofs.Sizes.{ops-more, ops-end}
 use Rattle.write.proofs.measure.ops_size.Statement.{statement}
 use Rattle.write.proofs.measure.ops_size.Tie as tie
-use Rattle.write.proofs.measure.ops_size.Reads as reads
-use Rattle.write.proofs.measure.ops_size.Lts as lts
-use Rattle.write.proofs.measure.op_size.Reads as op-size-reads
 
 abbrev Inv-loop : tie.InvT-loop
 Inv-loop t n cells k₀ e₀ k e = (k ≤ n) × (e ≤ 6 * wide * k) × (e + length (opsText (drop k (opsOf cells t n))) ≡ length (opsText (opsOf cells t n)))
@@ -68,7 +65,7 @@ loop-less : tie.Need-loop-less Inv-loop μ-loop
 loop-less c = omega arith
 
 loop-again : tie.Need-loop-again Inv-loop μ-loop
-loop-again c = 
+loop-again c =
     let l = c .before .before .before in
     let s = l .before in
     let a = s .args in
@@ -76,7 +73,7 @@ loop-again c =
     (omega arith, omega (arith, c .op-size .ensures .1), omega (arith, c .op-size .ensures .0))
 
 returns : tie.Need-returns Inv-loop μ-loop
-returns c = 
+returns c =
     let l = c .before in
     let s = l .before in
     let a = s .args in

@@ -1,6 +1,6 @@
 -- `write::measure::threads_size` meets its contract. The loop's invariant: what is counted, and the threads that are left. Assumes nothing.
 use Prim.Native.Nat.{ℕ, _+_, _*_, _-_, _<_, _≤_}
-use mathlib.Core.Path.{_≡_, refl, ap, sym, _∙_}
+use mathlib.Core.Path.{_≡_, ap, sym, _∙_}
 use mathlib.Core.List.{List, map}
 use native.Mathlib.Omega.{arith}
 use borrow.Author.Needs.{needs}
@@ -17,12 +17,9 @@ use Rattle.write.specs.Writing.{opsText, threadsText}
 use Rattle.write.proofs.Sizes.{thread-more, thread-end}
 use Rattle.write.proofs.measure.threads_size.Statement.{statement}
 use Rattle.write.proofs.measure.threads_size.Tie as tie
-use Rattle.write.proofs.measure.threads_size.Reads as reads
-use Rattle.write.proofs.measure.threads_size.Lts as lts
-use Rattle.write.proofs.measure.ops_size.Reads as ops-size-reads
 
 abbrev Inv-loop : tie.InvT-loop
-Inv-loop cells counts threads e₀ t₀ e t = 
+Inv-loop cells counts threads e₀ t₀ e t =
     let oss = rows mostOps (map opIn cells) (take threads counts) in
     (t ≤ threads) × (e ≤ 60 * wide * t) × (e + length (threadsText t (drop t oss)) ≡ length (threadsText 0 oss))
 
@@ -46,16 +43,16 @@ array-read-n : tie.Need-array-read-n Inv-loop μ-loop
 array-read-n c = omega arith
 
 ops-size-requires : tie.Need-ops-size-requires Inv-loop μ-loop
-ops-size-requires c κs = 
+ops-size-requires c κs =
     (omega arith, thread (c .before .before .before .before) (c .before .loop .t) (c .loop-test .taken) .count)
 
 add-e : tie.Need-add-e Inv-loop μ-loop
-add-e c = 
+add-e c =
     let here = thread (c .before .before .before .before .before) (c .before .before .loop .t) (c .before .loop-test .taken) in
     omega (arith, c .ops-size .ensures .1, here .count)
 
 add-e-2 : tie.Need-add-e-2 Inv-loop μ-loop
-add-e-2 c = 
+add-e-2 c =
     let here = thread (c .before .before .before .before .before) (c .before .before .loop .t) (c .before .loop-test .taken) in
     omega (arith, c .ops-size .ensures .1, here .count)
 
@@ -67,7 +64,7 @@ loop-less c = omega arith
 
 loop-again : tie.Need-loop-again Inv-loop μ-loop
 unfolding progOf
-loop-again c = 
+loop-again c =
     let s = c .before .before .before .before .before in
     let p = s .args .p in
     let l = c .before .before .loop in
@@ -78,7 +75,7 @@ loop-again c =
 
 returns : tie.Need-returns Inv-loop μ-loop
 unfolding progOf
-returns c = 
+returns c =
     let s = c .before .before .before .before in
     let p = s .args .p in
     let l = c .before .loop in

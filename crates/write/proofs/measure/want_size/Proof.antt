@@ -1,6 +1,6 @@
 -- `write::measure::want_size` meets its contract. The loop's invariant: what is counted, and the values that are left. Assumes nothing.
-use Prim.Native.Nat.{_+_, _*_, _-_, _<_, _≤_}
-use mathlib.Core.Path.{_≡_, refl, ap, sym, _∙_}
+use Prim.Native.Nat.{_+_, _*_, _-_, _≤_}
+use mathlib.Core.Path.{_≡_, ap, sym}
 use native.Mathlib.Omega.{arith}
 use borrow.Author.Needs.{needs}
 use lib.ListN.{length, drop, take}
@@ -11,9 +11,6 @@ use Rattle.spell.proofs.Pieces.{wanted-all, want-pieces, pieces-length}
 use Rattle.write.specs.Wide.{wide}
 use Rattle.write.proofs.measure.want_size.Statement.{statement}
 use Rattle.write.proofs.measure.want_size.Tie as tie
-use Rattle.write.proofs.measure.want_size.Reads as reads
-use Rattle.write.proofs.measure.want_size.Lts as lts
-use Rattle.write.proofs.measure.byte_size.Reads as byte-size-reads
 
 abbrev Inv-loop : tie.InvT-loop
 Inv-loop vals n e₀ i₀ e i = (1 ≤ i) × (i ≤ n) × (n ≤ 6) × (length vals ≡ 6) × (e ≤ 2 * wide * i) × (e + length (commaed (drop i (take n vals))) ≡ length (wantPieces vals n))
@@ -37,7 +34,7 @@ add-e : tie.Need-add-e Inv-loop μ-loop
 add-e c = omega (arith, c .byte-size .ensures .1)
 
 loop-holds : tie.Need-loop-holds Inv-loop μ-loop
-loop-holds c = 
+loop-holds c =
     let s = c .before .before .before .before in
     let w = s .args .w in
     let h = s .pre (c .before .before .before .if1 .left) in
@@ -63,14 +60,14 @@ loop-less : tie.Need-loop-less Inv-loop μ-loop
 loop-less c = omega arith
 
 loop-again : tie.Need-loop-again Inv-loop μ-loop
-loop-again c = 
+loop-again c =
     let l = c .before .before in
     let w = l .before .before .before .before .before .args .w in
     let m = commaed-length (w .values) (w .count) (l .loop .i) (c .before .loop-test .taken) (omega arith) in
     (omega arith, omega arith, l .loop .inv .2, l .loop .inv .3, omega (arith, c .byte-size2 .ensures .1), omega (arith, c .byte-size2 .ensures .0))
 
 returns-2 : tie.Need-returns-2 Inv-loop μ-loop
-returns-2 c = 
+returns-2 c =
     let l = c .before in
     let s = l .before .before .before .before .before in
     let w = s .args .w in
