@@ -1,10 +1,10 @@
 -- The op line and the want line in the pieces that are written one behind the other. Assumes nothing.
-use mathlib.Core.Path.{_≡_, refl, sym, _∙_, ap}
+use mathlib.Core.Path.{_≡_, sym, _∙_, ap}
 use mathlib.Core.Bool.{true, false}
 use mathlib.Core.List.{List, [], _∷_, _++_, map, append-assoc, append-nil}
-use Prim.Native.Nat.{ℕ, zero, suc, _+_, _-_, _≤_, _<_}
+use Prim.Native.Nat.{ℕ, _+_, _-_, _≤_, _<_}
 use native.Mathlib.Omega.{arith}
-use lib.ListN.{length, take, drop, getD, replicate, length-append}
+use lib.ListN.{length, take, drop, getD, length-append}
 use lib.Seq.{drop-cons, getD-take, length-take-le}
 use Rattle.names.specs.Names.{pick}
 use Rattle.tables.specs.Tables.{padded}

@@ -1,24 +1,17 @@
 -- `spell::put_op` meets its contract: its three pieces stand one behind the other. Assumes nothing.
 use native.Mathlib.Omega.{arith}
-use mathlib.Core.Path.{_≡_, refl, sym, _∙_, ap}
-use mathlib.Core.List.{List, [], _∷_, _++_}
-use Prim.Native.Nat.{ℕ, _+_, _≤_}
+use mathlib.Core.Path.{_≡_, sym, _∙_, ap}
+use mathlib.Core.List.{[], _∷_}
 use lib.ListN.{length, take}
 use lib.Seq.{length-take-le}
 use Rattle.number.specs.Put.{put}
 use Rattle.words.specs.Words.{word, kindIs, operands}
-use Rattle.words.specs.Op.{opKey, opText}
 use Rattle.number.proofs.Put.{put-three}
 use Rattle.line.specs.Join.{commaed}
 use Rattle.spell.proofs.Pieces.{op-pieces, op-length}
 use borrow.Author.Needs.{needs}
 use Rattle.spell.proofs.put_op.Statement.{statement}
 use Rattle.spell.proofs.put_op.Tie as tie
-use Rattle.spell.proofs.put_op.Reads as reads
-use Rattle.spell.proofs.put_op.Lts as lts
-use Rattle.spell.proofs.encode.Reads as encode-reads
-use Rattle.number.proofs.put_bytes.Reads as put-bytes-reads
-use Rattle.line.proofs.put_values.Reads as put-values-reads
 
 encode-requires : tie.Need-encode-requires
 encode-requires c κs = search needs
