@@ -1,7 +1,7 @@
 -- How long an op line and a want line can be. Assumes nothing.
 use mathlib.Core.Path.{_≡_, refl, sym, _∙_, ap}
-use mathlib.Core.List.{List, [], _∷_, _++_, map}
-use Prim.Native.Nat.{ℕ, zero, suc, _+_, _-_, _*_, _≤_, _<_}
+use mathlib.Core.List.{List, [], _∷_, map}
+use Prim.Native.Nat.{ℕ, zero, suc, _+_, _-_, _*_, _≤_}
 use native.Mathlib.Omega.{arith}
 use lib.ListN.{length, length-append, replicate}
 use Rattle.names.specs.Names.{locations}
@@ -18,7 +18,6 @@ use Rattle.line.proofs.Join.{join-commaed}
 use Rattle.words.specs.Words.{byte, rangeOf}
 use Rattle.words.specs.Op.{opText, Within}
 use Rattle.words.specs.Want.{wantKey, wantText, WantFits}
-use Rattle.words.proofs.Want.{want-count}
 use Rattle.spell.proofs.Pieces.{op-length}
 
 pub commaed-none : length (commaed []) ≡ 0
