@@ -156,17 +156,17 @@ impl Walk<'_> {
                 return true;
             }
         }
-        for t in 0..4 {
+        for t in 0..self.program.threads.min(4) {
             if self.places[t] < self.program.lengths[t] && self.instruction(t) {
                 return true;
             }
         }
-        for t in 0..4 {
+        for t in 0..self.program.threads.min(4) {
             if self.buffered[t] > 0 && self.leave_buffer(t) {
                 return true;
             }
         }
-        for loc in 0..6 {
+        for loc in 0..self.program.locs.min(6) {
             if self.heads[loc] < self.tails[loc] && self.leave_queue(loc) {
                 return true;
             }
@@ -175,6 +175,7 @@ impl Walk<'_> {
     }
 
     /// Notes the code and visits what is behind it.
+    #[inline(always)]
     fn enter(&mut self, code: usize, memory_is_new: bool) -> bool {
         self.counts.run[self.depth & (RUN_ROOM - 1)] = code as u8;
         self.depth += 1;
@@ -200,6 +201,7 @@ impl Walk<'_> {
         self.counts.memory_count = count + 1;
     }
 
+    #[inline(always)]
     fn instruction(&mut self, t: usize) -> bool {
         let place = self.places[t];
         let op = self.program.ops[t][place as usize & 7];
@@ -235,7 +237,7 @@ impl Walk<'_> {
                 queued = Some(self.seen[loc].wrapping_add(x));
                 self.registers[t][reg] = self.seen[loc];
             }
-            _ => {
+            CAS => {
                 let value = self.load(t, loc);
                 if value == x {
                     if !fenced {
@@ -245,6 +247,7 @@ impl Walk<'_> {
                 }
                 self.registers[t][reg] = value;
             }
+            _ => return false,
         }
 
         self.places[t] = place + length;
@@ -292,6 +295,7 @@ impl Walk<'_> {
         self.tails[loc] = tail + 1;
     }
 
+    #[inline(always)]
     fn leave_buffer(&mut self, t: usize) -> bool {
         let buffer = self.buffers[t];
         let count = self.buffered[t];
@@ -352,6 +356,7 @@ impl Walk<'_> {
         false
     }
 
+    #[inline(always)]
     fn leave_queue(&mut self, loc: usize) -> bool {
         let head = self.heads[loc];
         let entry = self.queues[loc][head as usize & 31];
