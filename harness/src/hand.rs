@@ -27,6 +27,7 @@ pub struct Packed {
     pub ops: [[u32; 8]; 4],
 }
 
+/// Both are powers of two, so that a masked index is always inside.
 pub const MEMORY_ROOM: usize = 4096;
 pub const RUN_ROOM: usize = 128;
 
@@ -188,16 +189,26 @@ impl Walk<'_> {
 
     /// Keeps the memory in its place among those met.
     fn collect(&mut self) {
+        const MASK: usize = MEMORY_ROOM - 1;
+        let memories = &mut self.counts.memories;
         let count = self.counts.memory_count;
-        let Err(at) = self.counts.memories[..count].binary_search(&self.memory) else {
-            return;
-        };
+        let (mut low, mut high) = (0, count);
+        while low < high {
+            let middle = (low + high) / 2;
+            match memories[middle & MASK].cmp(&self.memory) {
+                core::cmp::Ordering::Less => low = middle + 1,
+                core::cmp::Ordering::Equal => return,
+                core::cmp::Ordering::Greater => high = middle,
+            }
+        }
         if count == MEMORY_ROOM {
             self.counts.full = true;
             return;
         }
-        self.counts.memories.copy_within(at..count, at + 1);
-        self.counts.memories[at] = self.memory;
+        for at in (low..count).rev() {
+            memories[(at + 1) & MASK] = memories[at & MASK];
+        }
+        memories[low & MASK] = self.memory;
         self.counts.memory_count = count + 1;
     }
 
@@ -263,7 +274,7 @@ impl Walk<'_> {
             self.buffered[t] = at;
         } else if let Some(value) = queued {
             let seen = self.seen[loc];
-            self.to_queue(loc, value as u16);
+            self.push_queue(loc, value as u16);
             self.seen[loc] = value;
             if self.enter(t, false) {
                 return true;
@@ -289,7 +300,7 @@ impl Walk<'_> {
         self.seen[loc]
     }
 
-    fn to_queue(&mut self, loc: usize, entry: u16) {
+    fn push_queue(&mut self, loc: usize, entry: u16) {
         let tail = self.tails[loc];
         self.queues[loc][tail as usize & 31] = entry;
         self.tails[loc] = tail + 1;
@@ -328,7 +339,7 @@ impl Walk<'_> {
                 WRITE => {
                     let seen = self.seen[loc];
                     self.seen[loc] = (entry >> 8) as u8;
-                    self.to_queue(loc, entry >> 8);
+                    self.push_queue(loc, entry >> 8);
                     if self.enter(code, false) {
                         return true;
                     }
@@ -337,7 +348,7 @@ impl Walk<'_> {
                 }
                 MARKS => {
                     self.marks[t] += 1;
-                    self.to_queue(loc, MARK | t as u16);
+                    self.push_queue(loc, MARK | t as u16);
                     if self.enter(code, false) {
                         return true;
                     }

@@ -89,7 +89,7 @@ impl State {
         }
     }
 
-    fn to_buffer(&mut self, t: usize, entry: Buffered) -> Result<(), Stop> {
+    fn push_buffer(&mut self, t: usize, entry: Buffered) -> Result<(), Stop> {
         if self.threads[t].buffer.len() == BUFFER_ROOM {
             return Err(Stop::NoRoom);
         }
@@ -97,7 +97,7 @@ impl State {
         Ok(())
     }
 
-    fn to_queue(&mut self, loc: u8, entry: Queued) -> Result<(), Stop> {
+    fn push_queue(&mut self, loc: u8, entry: Queued) -> Result<(), Stop> {
         let queue = &mut self.queues[usize::from(loc)];
         if queue.len() == QUEUE_ROOM {
             return Err(Stop::NoRoom);
@@ -126,14 +126,14 @@ fn instruction(program: &Program, state: &State, t: usize) -> Result<State, Stop
     let mut next = state.clone();
     next.threads[t].place += 1;
     match op {
-        Op::Store { loc, value } => next.to_buffer(t, Buffered::Write { loc, value })?,
+        Op::Store { loc, value } => next.push_buffer(t, Buffered::Write { loc, value })?,
         Op::StoreRegister { loc, reg } => {
             let value = thread.registers[usize::from(reg)];
-            next.to_buffer(t, Buffered::Write { loc, value })?;
+            next.push_buffer(t, Buffered::Write { loc, value })?;
         }
-        Op::StoreFence => next.to_buffer(t, Buffered::StoreFence)?,
-        Op::Flush { loc } => next.to_buffer(t, Buffered::Flush { loc })?,
-        Op::FlushOpt { loc } => next.to_buffer(t, Buffered::FlushOpt { loc })?,
+        Op::StoreFence => next.push_buffer(t, Buffered::StoreFence)?,
+        Op::Flush { loc } => next.push_buffer(t, Buffered::Flush { loc })?,
+        Op::FlushOpt { loc } => next.push_buffer(t, Buffered::FlushOpt { loc })?,
         Op::Load { reg, loc } => {
             next.threads[t].registers[usize::from(reg)] = state.load(t, loc);
         }
@@ -147,14 +147,14 @@ fn instruction(program: &Program, state: &State, t: usize) -> Result<State, Stop
             state.fenced(t)?;
             let old = state.load(t, loc);
             let value = old.wrapping_add(add);
-            next.to_queue(loc, Queued::Write { value })?;
+            next.push_queue(loc, Queued::Write { value })?;
             next.threads[t].registers[usize::from(reg)] = old;
         }
         Op::Cas { reg, loc, expected, new } => {
             let old = state.load(t, loc);
             if old == expected {
                 state.fenced(t)?;
-                next.to_queue(loc, Queued::Write { value: new })?;
+                next.push_queue(loc, Queued::Write { value: new })?;
             }
             next.threads[t].registers[usize::from(reg)] = old;
         }
@@ -173,8 +173,8 @@ fn leave_buffer(state: &State, t: usize, p: usize) -> Result<State, Stop> {
     let mut next = state.clone();
     next.threads[t].buffer.remove(p);
     match entry {
-        Buffered::Write { loc, value } => next.to_queue(loc, Queued::Write { value })?,
-        Buffered::FlushOpt { loc } => next.to_queue(loc, Queued::Mark { thread: t })?,
+        Buffered::Write { loc, value } => next.push_queue(loc, Queued::Write { value })?,
+        Buffered::FlushOpt { loc } => next.push_queue(loc, Queued::Mark { thread: t })?,
         Buffered::Flush { loc } => {
             if !state.queues[usize::from(loc)].is_empty() {
                 return Err(Stop::NotAllowed);
