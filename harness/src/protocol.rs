@@ -5,6 +5,11 @@
 
 use std::io::{self, BufReader, BufWriter, Read, Write};
 use std::process::{Child, ChildStdin, ChildStdout, Command, Stdio};
+use std::sync::mpsc;
+use std::time::Duration;
+
+/// A program that gives no response for so long is taken to hang, and ended.
+const PATIENCE: Duration = Duration::from_secs(300);
 
 #[derive(Clone, Copy, Debug, PartialEq, Eq)]
 pub enum Kind {
@@ -123,8 +128,8 @@ impl Server {
         let Some(running) = &mut self.running else {
             return Ok(Vec::new());
         };
-        let input = &mut running.input;
-        let output = &mut running.output;
+        let Running { child, input, output } = running;
+        let (responded, waited) = mpsc::channel();
         let mut responses = Vec::new();
         // One thread writes while this one reads, so neither waits for the other with full hands.
         std::thread::scope(|scope| {
@@ -137,12 +142,24 @@ impl Server {
                 // A program that has ended shows on the reading side.
                 let _ = input.flush();
             });
-            while responses.len() < requests.len() {
-                match take_bytes(output) {
-                    Ok(response) => responses.push(response),
-                    Err(_) => break,
+            scope.spawn(move || loop {
+                match waited.recv_timeout(PATIENCE) {
+                    Ok(()) => (),
+                    Err(mpsc::RecvTimeoutError::Disconnected) => return,
+                    Err(mpsc::RecvTimeoutError::Timeout) => {
+                        let _ = child.kill();
+                        return;
+                    }
                 }
+            });
+            while responses.len() < requests.len() {
+                let Ok(response) = take_bytes(output) else {
+                    break;
+                };
+                responses.push(response);
+                let _ = responded.send(());
             }
+            drop(responded);
         });
         if responses.len() < requests.len() {
             self.stop();

@@ -1,6 +1,6 @@
 //! Lists of codes: allowed ones of every length, ones with a bad code in them, and any.
 
-use super::programs::{any_program, small_program};
+use super::programs::{any_program, full_program, small_program};
 use super::questions::question;
 use crate::machine::{step, State, LAST_CODE};
 use crate::program::{Program, Question, Want};
@@ -15,7 +15,11 @@ pub fn followed(random: &mut Random) -> Request {
     let question = if random.once_in(4) {
         question(random)
     } else {
-        let program = if random.once_in(3) { small_program(random) } else { any_program(random) };
+        let program = match random.below(6) {
+            0 | 1 => small_program(random),
+            2 => full_program(random),
+            _ => any_program(random),
+        };
         Question { program, budget: 1 + random.below(100) as u64, want: Want::All }
     };
     let codes = codes_for(random, &question.program);
@@ -69,14 +73,16 @@ fn codes_for(random: &mut Random, program: &Program) -> Vec<u8> {
 
 /// Allowed codes, at most so many, and the state behind them. Some walks like one sort of step better than others.
 fn allowed_walk(random: &mut Random, program: &Program, length: usize) -> (Vec<u8>, State) {
-    let taste = random.below(4);
+    let taste = random.below(6);
+    let strict = random.once_in(2);
     let mut state = State::start(program);
     let mut codes = Vec::new();
     while codes.len() < length {
         let allowed: Vec<(u8, State)> =
             (0..=LAST_CODE).filter_map(|code| step(program, &state, code).ok().map(|next| (code, next))).collect();
-        let liked: Vec<&(u8, State)> = allowed.iter().filter(|(code, _)| likes(taste, *code)).collect();
-        let (code, next) = if !liked.is_empty() && !random.once_in(4) {
+        let best = allowed.iter().map(|(code, _)| rank(taste, *code)).min();
+        let liked: Vec<&(u8, State)> = allowed.iter().filter(|(code, _)| Some(rank(taste, *code)) == best).collect();
+        let (code, next) = if !liked.is_empty() && (strict || !random.once_in(4)) {
             random.pick(&liked)
         } else if !allowed.is_empty() {
             random.pick(&allowed)
@@ -89,12 +95,20 @@ fn allowed_walk(random: &mut Random, program: &Program, length: usize) -> (Vec<u
     (codes, state)
 }
 
-fn likes(taste: usize, code: u8) -> bool {
+/// How late a code comes to a taste.
+fn rank(taste: usize, code: u8) -> u8 {
+    let overtakes = (16..64).contains(&code) && code % 8 > 0;
     match taste {
-        0 => code < 16,
-        1 => (16..64).contains(&code),
-        2 => code >= 64,
-        _ => true,
+        0 => u8::from(code >= 16),
+        1 => u8::from(!(16..64).contains(&code)),
+        2 => u8::from(code < 64),
+        // The queues are filled.
+        3 => u8::from(code >= 64),
+        // The buffers are filled, then entries overtake from far behind.
+        4 if code < 16 => 0,
+        4 if overtakes => 8 - code % 8,
+        4 => 8,
+        _ => 0,
     }
 }
 
