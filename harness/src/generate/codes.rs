@@ -97,7 +97,8 @@ fn allowed_walk(random: &mut Random, program: &Program, length: usize) -> (Vec<u
 
 /// How late a code comes to a taste.
 fn rank(taste: usize, code: u8) -> u8 {
-    let overtakes = (16..64).contains(&code) && code % 8 > 0;
+    let place = code % 8;
+    let overtakes = (16..64).contains(&code) && place > 0;
     match taste {
         0 => u8::from(code >= 16),
         1 => u8::from(!(16..64).contains(&code)),
@@ -106,7 +107,7 @@ fn rank(taste: usize, code: u8) -> u8 {
         3 => u8::from(code >= 64),
         // The buffers are filled, then entries overtake from far behind.
         4 if code < 16 => 0,
-        4 if overtakes => 8 - code % 8,
+        4 if overtakes => 8 - place,
         4 => 8,
         _ => 0,
     }

@@ -23,7 +23,7 @@ pub fn damaged(random: &mut Random) -> Request {
 }
 
 fn damage(random: &mut Random, text: Vec<u8>) -> Vec<u8> {
-    match random.below(17) {
+    match random.below(18) {
         0..=2 => change_byte(random, text),
         3..=5 => change_lines(random, text),
         6..=8 => change_number(random, text),
@@ -37,6 +37,7 @@ fn damage(random: &mut Random, text: Vec<u8>) -> Vec<u8> {
         13 => swap_fields(random, text),
         14 => change_op(random, text),
         15 => add_skip(random, text),
+        16 => change_want(random, text),
         _ => noise(random),
     }
 }
@@ -75,7 +76,7 @@ fn change_lines(random: &mut Random, text: Vec<u8>) -> Vec<u8> {
         return text;
     }
     let (one, other) = (random.below(lines.len()), random.below(lines.len()));
-    match random.below(6) {
+    match random.below(7) {
         0 => {
             lines.remove(one);
         }
@@ -86,6 +87,17 @@ fn change_lines(random: &mut Random, text: Vec<u8>) -> Vec<u8> {
             lines.insert(other, line);
         }
         4 => lines[one] = b"\n".to_vec(),
+        // A thread line that is gone or out of its turn.
+        5 => {
+            let line = format!("thread={}\n", random.below(6)).into_bytes();
+            match (0..lines.len()).find(|&at| lines[at].starts_with(b"thread=")) {
+                Some(first) if random.once_in(2) => {
+                    lines.remove(first);
+                }
+                Some(first) => lines[first] = line,
+                None => lines.push(line),
+            }
+        }
         _ => lines.push(lines[one].clone()),
     }
     lines.concat()
@@ -103,7 +115,7 @@ fn change_number(random: &mut Random, text: Vec<u8>) -> Vec<u8> {
     let end = start + text[start..].iter().take_while(|byte| byte.is_ascii_digit()).count();
     let old = String::from_utf8_lossy(&text[start..end]).into_owned();
     let many = if random.once_in(4) { random.within(100, 950) } else { random.within(3, 40) };
-    let new = match random.below(12) {
+    let new = match random.below(15) {
         0 => format!("0{old}"),
         1 => format!("{old}{}", random.below(10)),
         2 => format!("+{old}"),
@@ -115,7 +127,7 @@ fn change_number(random: &mut Random, text: Vec<u8>) -> Vec<u8> {
         8 => random.pick(&["255", "256", "257", "1000000000", "1000000001", "65536", "65537"]).to_string(),
         9 => "0".to_string(),
         10 => format!("00{old}"),
-        _ => random.below(12).to_string(),
+        _ => random.below(10).to_string(),
     };
     [&text[..start], new.as_bytes(), &text[end..]].concat()
 }
@@ -194,6 +206,17 @@ fn add_skip(random: &mut Random, text: Vec<u8>) -> Vec<u8> {
     let at = random.within(lines.len().min(5), lines.len());
     let skip = format!("op=bz,{},{}\n", random.below(4), random.below(10));
     [lines[..at].concat(), skip.into_bytes(), lines[at..].concat()].concat()
+}
+
+/// Wants any count of any values.
+fn change_want(random: &mut Random, text: Vec<u8>) -> Vec<u8> {
+    let mut lines: Vec<Vec<u8>> = text.split_inclusive(|&byte| byte == b'\n').map(<[u8]>::to_vec).collect();
+    let values: Vec<&str> =
+        (0..random.below(8)).map(|_| *random.pick(&["0", "1", "42", "255", "256", "1000", "", "00", "x"])).collect();
+    if let Some(line) = lines.iter_mut().find(|line| line.starts_with(b"want=")) {
+        *line = format!("want={}\n", values.join(",")).into_bytes();
+    }
+    lines.concat()
 }
 
 /// Gives an op line another name, or more or fewer operands.

@@ -21,16 +21,21 @@ pub fn any_program(random: &mut Random) -> Program {
     with_sizes(random, threads, most)
 }
 
-/// A program that fills its store buffers, and the queue of its one location or the buffers' last places.
+/// A program that fills its store buffers: all of them and one queue to the brim, or with room to overtake.
 pub fn full_program(random: &mut Random) -> Program {
-    let locs = if random.once_in(2) { 1 } else { random.within(4, MAX_LOCS) };
-    let sizes = vec![MAX_OPS; random.within(1, MAX_THREADS)];
-    let threads = sizes.iter().map(|&size| thread_of(random, size, locs, FILLING)).collect();
+    let (locs, threads, taste) = if random.once_in(2) {
+        (1, MAX_THREADS, BRIMMING)
+    } else {
+        (random.within(4, MAX_LOCS), random.within(1, MAX_THREADS), FILLING)
+    };
+    let threads = (0..threads).map(|_| thread_of(random, MAX_OPS, locs, taste)).collect();
     Program { locs, threads }
 }
 
-/// The taste of threads whose instructions nearly all join the buffer.
+/// The taste of threads whose instructions all join the buffer.
 const FILLING: usize = 4;
+/// The taste of threads whose instructions all reach a queue.
+const BRIMMING: usize = 5;
 
 /// Deals `ops` instructions to the threads, as far as they have room.
 fn with_sizes(random: &mut Random, threads: usize, ops: usize) -> Program {
@@ -73,6 +78,7 @@ pub fn random_op(random: &mut Random, locs: usize, behind: usize, taste: usize) 
         0 => random.below(10),
         1 => *random.pick(&[0, 0, 0, 6, 7, 7, 8, 8, 8, 5]),
         2 => *random.pick(&[0, 0, 1, 2, 2, 9, 9, 3, 4]),
+        BRIMMING => *random.pick(&[0, 0, 1, 8]),
         FILLING => *random.pick(&[0, 0, 0, 0, 0, 0, 8, 8, 8, 8, 8, 1, 7]),
         _ => *random.pick(&[0, 0, 2, 3, 3, 4, 8, 8, 6, 5]),
     };
