@@ -9,8 +9,8 @@ use std::io::{self, Write};
 
 /// With --part, one request of so many.
 pub const PART: u64 = 12;
-/// Requests sent at once.
-const BATCH: usize = 200;
+/// Requests sent to one process.
+const BATCH: usize = 500;
 /// Differences shown; the others are only counted.
 const SHOWN: u64 = 5;
 
@@ -23,7 +23,7 @@ pub struct Tally {
 }
 
 /// Compares all families, or a part of them, and says on `out` what was seen.
-pub fn compare(server: &mut Server, part: bool, out: &mut impl Write) -> io::Result<Tally> {
+pub fn compare(server: &Server, part: bool, out: &mut impl Write) -> io::Result<Tally> {
     let mut tally = Tally::default();
     for family in Family::ALL {
         let seeds: Vec<u64> =
@@ -42,7 +42,7 @@ pub fn compare(server: &mut Server, part: bool, out: &mut impl Write) -> io::Res
 }
 
 fn compare_batch(
-    server: &mut Server,
+    server: &Server,
     family: Family,
     seeds: &[u64],
     tally: &mut Tally,
@@ -67,8 +67,7 @@ fn compare_batch(
         if response.as_ref() != Some(&expected) {
             tally.differ += 1;
             if tally.differ <= SHOWN {
-                let small =
-                    shrink(request, &mut |smaller| one_response(server, smaller).as_ref() != Some(&reply(smaller)));
+                let small = shrink(request, &mut |few| first_that_differs(server, few));
                 writeln!(out, "DIFFERENCE, {}, seed {seed}, made small:", family.name())?;
                 show(server, &small, out)?;
             }
@@ -78,12 +77,18 @@ fn compare_batch(
 }
 
 /// The response to one request; nothing if the program ended instead.
-fn one_response(server: &mut Server, request: &Request) -> Option<Vec<u8>> {
+fn one_response(server: &Server, request: &Request) -> Option<Vec<u8>> {
     server.ask(std::slice::from_ref(request)).ok()?.pop()
 }
 
+/// The index of the first request whose response differs or is missing.
+fn first_that_differs(server: &Server, requests: &[Request]) -> Option<usize> {
+    let responses = server.ask(requests).unwrap_or_default();
+    (0..requests.len()).find(|&at| responses.get(at) != Some(&reply(&requests[at])))
+}
+
 /// Shows a request with both responses.
-fn show(server: &mut Server, request: &Request, out: &mut impl Write) -> io::Result<()> {
+fn show(server: &Server, request: &Request, out: &mut impl Write) -> io::Result<()> {
     writeln!(out, "kind={} lent={}", char::from(request.kind.letter()), request.lent)?;
     for line in request.text.split_inclusive(|&byte| byte == b'\n') {
         writeln!(out, "  | {}", line.escape_ascii())?;

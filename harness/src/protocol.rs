@@ -95,89 +95,65 @@ pub fn put_response(stream: &mut impl Write, response: &[u8]) -> io::Result<()> 
     stream.write_all(response)
 }
 
-/// The test program, started and started again if it ends.
+/// The test program. It is started for each batch of requests, so that it may give its responses as late as at its end.
 pub struct Server {
     command: Vec<String>,
-    running: Option<Running>,
-}
-
-struct Running {
-    child: Child,
-    input: BufWriter<ChildStdin>,
-    output: BufReader<ChildStdout>,
 }
 
 impl Server {
     pub fn new(command: &[String]) -> Server {
-        Server { command: command.to_vec(), running: None }
+        Server { command: command.to_vec() }
     }
 
-    fn start(&self) -> io::Result<Running> {
+    /// Sends requests and takes as many responses; fewer if the program ends before.
+    pub fn ask(&self, requests: &[Request]) -> io::Result<Vec<Vec<u8>>> {
         let (program, arguments) = self.command.split_first().ok_or_else(|| io::Error::other("no command"))?;
         let mut child = Command::new(program).args(arguments).stdin(Stdio::piped()).stdout(Stdio::piped()).spawn()?;
         let input = child.stdin.take().ok_or(io::ErrorKind::BrokenPipe)?;
         let output = child.stdout.take().ok_or(io::ErrorKind::BrokenPipe)?;
-        Ok(Running { child, input: BufWriter::new(input), output: BufReader::new(output) })
-    }
-
-    /// Sends requests and takes as many responses; fewer if the program ends before.
-    pub fn ask(&mut self, requests: &[Request]) -> io::Result<Vec<Vec<u8>>> {
-        if self.running.is_none() {
-            self.running = Some(self.start()?);
-        }
-        let Some(running) = &mut self.running else {
-            return Ok(Vec::new());
-        };
-        let Running { child, input, output } = running;
+        let watched = &mut child;
         let (responded, waited) = mpsc::channel();
-        let mut responses = Vec::new();
         // One thread writes while this one reads, so neither waits for the other with full hands.
-        std::thread::scope(|scope| {
-            scope.spawn(move || {
-                for request in requests {
-                    if input.write_all(&request.bytes()).is_err() {
-                        return;
-                    }
-                }
-                // A program that has ended shows on the reading side.
-                let _ = input.flush();
-            });
-            scope.spawn(move || loop {
-                match waited.recv_timeout(PATIENCE) {
-                    Ok(()) => (),
-                    Err(mpsc::RecvTimeoutError::Disconnected) => return,
-                    Err(mpsc::RecvTimeoutError::Timeout) => {
-                        let _ = child.kill();
-                        return;
-                    }
-                }
-            });
-            while responses.len() < requests.len() {
-                let Ok(response) = take_bytes(output) else {
-                    break;
-                };
-                responses.push(response);
-                let _ = responded.send(());
-            }
-            drop(responded);
+        let taken = std::thread::scope(|scope| {
+            scope.spawn(move || send(input, requests));
+            scope.spawn(move || watch(watched, &waited));
+            take_responses(output, requests.len(), responded)
         });
-        if responses.len() < requests.len() {
-            self.stop();
-        }
-        Ok(responses)
-    }
-
-    /// Ends the program if it runs.
-    fn stop(&mut self) {
-        if let Some(mut running) = self.running.take() {
-            let _ = running.child.kill();
-            let _ = running.child.wait();
-        }
+        child.wait()?;
+        taken
     }
 }
 
-impl Drop for Server {
-    fn drop(&mut self) {
-        self.stop();
+/// Writes all requests and closes the program's input. A program that has ended shows on the reading side.
+fn send(input: ChildStdin, requests: &[Request]) {
+    let mut input = BufWriter::new(input);
+    for request in requests {
+        if input.write_all(&request.bytes()).is_err() {
+            return;
+        }
     }
+    let _ = input.flush();
+}
+
+/// Ends the program when it gives no response for too long, or when nobody waits for its responses any more.
+fn watch(child: &mut Child, waited: &mpsc::Receiver<()>) {
+    while waited.recv_timeout(PATIENCE).is_ok() {}
+    let _ = child.kill();
+}
+
+/// Takes the responses, and the end of the output behind the last one. The sender goes when this returns.
+fn take_responses(output: ChildStdout, count: usize, responded: mpsc::Sender<()>) -> io::Result<Vec<Vec<u8>>> {
+    let mut output = BufReader::new(output);
+    let mut responses = Vec::new();
+    while responses.len() < count {
+        let Ok(response) = take_bytes(&mut output) else {
+            return Ok(responses);
+        };
+        responses.push(response);
+        let _ = responded.send(());
+    }
+    if output.read(&mut [0])? > 0 {
+        return Err(io::Error::other("the program writes more than its responses"));
+    }
+    Ok(responses)
 }

@@ -8,34 +8,31 @@ use crate::protocol::{Kind, Request};
 use crate::text::{read, text_of};
 
 /// Requests tried at most for one difference.
-const MOST_TRIES: usize = 3000;
+const MOST_TRIES: usize = 20_000;
+const TRIED_AT_ONCE: usize = 50;
 /// A smaller program may have more runs; beyond this many it isn't tried.
 const MOST_RUNS: u64 = 20_000;
 /// Totals are looked for up to here.
 const MOST_TOTAL: u64 = 2000;
 
-/// The smallest request found for which `differs` still holds.
-pub fn shrink(request: &Request, differs: &mut dyn FnMut(&Request) -> bool) -> Request {
+/// The smallest request found that still differs; `first_that_differs` gives the index of one in a list.
+pub fn shrink(request: &Request, first_that_differs: &mut dyn FnMut(&[Request]) -> Option<usize>) -> Request {
     let mut best = request.clone();
     let mut tries = 0;
-    loop {
-        let mut smaller = None;
-        for candidate in candidates(&best) {
-            if tries == MOST_TRIES {
+    'smaller: loop {
+        let mut smaller = candidates(&best);
+        smaller.retain(ends_soon);
+        for few in smaller.chunks(TRIED_AT_ONCE) {
+            tries += few.len();
+            if tries > MOST_TRIES {
                 return best;
             }
-            if ends_soon(&candidate) {
-                tries += 1;
-                if differs(&candidate) {
-                    smaller = Some(candidate);
-                    break;
-                }
+            if let Some(index) = first_that_differs(few) {
+                best = few[index].clone();
+                continue 'smaller;
             }
         }
-        match smaller {
-            Some(found) => best = found,
-            None => return best,
-        }
+        return best;
     }
 }
 

@@ -17,7 +17,7 @@ fn main() -> ExitCode {
         [option] if option == "--part" => true,
         _ => return usage(),
     };
-    match compare(&mut Server::new(command), part, &mut io::stdout()) {
+    match compare(&Server::new(command), part, &mut io::stdout()) {
         Ok(tally) if tally.differ == 0 => ExitCode::SUCCESS,
         Ok(_) => ExitCode::FAILURE,
         Err(error) => {
