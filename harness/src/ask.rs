@@ -100,13 +100,3 @@ pub fn ask(question: &Question, lent: &mut [u8]) -> Answer {
     lent[..bytes.len()].copy_from_slice(&bytes);
     answer
 }
-
-/// How many bytes the answer to a question needs: a lent buffer of this length is just long enough.
-pub fn bytes_needed(question: &Question) -> usize {
-    let mut lent = vec![0; 1 << 16];
-    match ask(question, &mut lent) {
-        Answer::All { memories, .. } => memories * question.program.locs,
-        Answer::Reached { length, .. } => length,
-        _ => 0,
-    }
-}

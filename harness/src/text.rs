@@ -60,7 +60,8 @@ pub fn read(text: &[u8]) -> Result<Question, Refusal> {
     let want = lines.judge(|line| read_want(line, locs))?;
 
     let mut threads: Vec<Vec<Op>> = Vec::new();
-    let mut skip_lines: Vec<(usize, usize, usize)> = Vec::new();
+    // The line, the thread and the place of each skip.
+    let mut skips: Vec<(usize, usize, usize)> = Vec::new();
     while threads.len() < thread_count as usize || !lines.at_end() {
         let line_number = lines.next;
         lines.judge(|line| {
@@ -72,13 +73,13 @@ pub fn read(text: &[u8]) -> Result<Question, Refusal> {
         })?;
         if let Some(ops) = threads.last() {
             if let Some(Op::SkipIfZero { .. }) = ops.last() {
-                skip_lines.push((line_number, threads.len() - 1, ops.len() - 1));
+                skips.push((line_number, threads.len() - 1, ops.len() - 1));
             }
         }
     }
 
     // Only now the skips: each may land just behind its thread's last instruction.
-    for (line, thread, at) in skip_lines {
+    for (line, thread, at) in skips {
         let ops = &threads[thread];
         if let Op::SkipIfZero { count, .. } = ops[at] {
             if !skip_stays_inside(at, count, ops) {
