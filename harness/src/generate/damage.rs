@@ -172,14 +172,18 @@ fn change_length(random: &mut Random, mut text: Vec<u8>) -> Vec<u8> {
     text
 }
 
-/// Puts op lines in, so that a thread has up to nine or more of them.
+/// Puts op lines in, so that a thread has up to nine or more of them; or one before the first thread.
 fn add_ops(random: &mut Random, text: Vec<u8>) -> Vec<u8> {
     let lines: Vec<&[u8]> = text.split_inclusive(|&byte| byte == b'\n').collect();
-    let at = random.within(lines.len().min(5), lines.len());
+    let before_threads = lines.len().min(4);
+    let (at, more) = if random.once_in(4) {
+        (before_threads, 0)
+    } else {
+        (random.within(before_threads, lines.len()), random.within(0, 9))
+    };
     let fine = random.pick(&["op=mf\n", "op=st,0,1\n", "op=bz,0,1\n", "op=fo,0\n"]).as_bytes();
     let last = random.pick(&["op=mf\n", "op=st,0,256\n", "op=mf,0\n", "op=bz,0,8\n", "op=bz,0,9\n"]).as_bytes();
-    let added = fine.repeat(random.within(0, 9));
-    [lines[..at].concat(), added, last.to_vec(), lines[at..].concat()].concat()
+    [lines[..at].concat(), fine.repeat(more), last.to_vec(), lines[at..].concat()].concat()
 }
 
 /// Swaps two neighbours at a comma or an equals sign, or doubles or drops the sign.
