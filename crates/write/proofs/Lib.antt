@@ -6,4 +6,5 @@ pub mod Round
 pub mod Sizes
 pub mod Pieces
 pub mod Doors
+pub mod Examples
 pub mod Unique
