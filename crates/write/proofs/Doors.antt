@@ -1,12 +1,13 @@
--- THE ROUND TRIPS OF THE DOORS: what `read` accepts, `write` writes as the same text, at the front of any buffer that holds it, 0 behind.
--- Assumes nothing.
-use Prim.Native.Nat.{ℕ, _≤_}
-use mathlib.Core.Path.{_≡_, refl, sym, subst, _∙_}
+-- THE ROUND TRIPS OF THE DOORS: what `read` accepts, `write` writes as the same text, at the front of any buffer that holds it, 0 behind; what
+-- `write` accepts, `read` reads as the same program, with the same budget and want. Assumes nothing.
+use Prim.Native.Nat.{ℕ, _-_, _≤_}
+use mathlib.Core.Path.{_≡_, refl, ap, sym, subst, _∙_}
 use mathlib.Core.Bool.{true}
-use mathlib.Core.List.{List}
+use mathlib.Core.List.{List, _++_}
 use borrow.Author.Tests.{eq-eqb, le-leb}
 use lib.Dec.{leb, eqb}
-use lib.ListN.{length}
+use lib.ListN.{length, take, replicate}
+use lib.Seq.{take-append-seam}
 use Rattle.names.specs.Names.{pick}
 use Rattle.tables.specs.Tables.{padded}
 use Rattle.program.specs.declared.Question.{Question}
@@ -20,9 +21,12 @@ use Rattle.question.proofs.Made.{holding-locs}
 use Rattle.text.specs.declared.Verdict.the-variants.{Accepted}
 use Rattle.text.specs.Read.{readText, readOf}
 use Rattle.text.proofs.Legal.{accepted-legal}
+use Rattle.write.specs.declared.Wrote.{Wrote}
 use Rattle.write.specs.declared.Wrote.the-variants.{Length}
+use Rattle.write.specs.Bytes.{Held}
 use Rattle.write.specs.Writing.{textIn, wantsRight, writing, leaves}
-use Rattle.write.proofs.Round.{told-accepted, read-then-write}
+use Rattle.write.proofs.Round.{told-accepted, read-then-write, Returns, write-then-read}
+use Rattle.write.proofs.Held.{held-threads, held-want, accepts}
 
 made-locs : (a : Asked) → questionOf a .program .locs ≡ a .prog .locs
 unfolding questionOf programOf
@@ -44,7 +48,7 @@ writes q l o h r e room =
     let k : leb (length (textIn q)) (length o) ≡ true = le-leb (length (textIn q)) (length o) (rw e room) in
     (rw (h, r, k, e), rw (h, r, k, e))
 
--- THEOREM
+-- THEOREM: every text that `read` accepts
 pub read-and-written :
     (l o : List ℕ) → readOf l .verdict ≡ Accepted → length l ≤ length o
     → (writing (readOf l .question) (length o) ≡ Length (length l))
@@ -56,3 +60,19 @@ read-and-written l o e room = writes (readOf l .question) l o (known .0) (known 
         let f = told-accepted (readText l) e in
         let g = accepted-legal l (f .0) (f .1) in
         subst (λ (q : Question). (legalAsked (q .program) (q .budget) ≡ true) × (wantsRight q ≡ true)) (sym (f .2)) (g .0, accepted-right (f .0) (g .1)))
+
+-- the text at the front of the buffer
+front : (n k : ℕ) (t : List ℕ) → k ≡ length t → take k (padded n 0 t) ≡ t
+unfolding padded
+front n k t e = ap (λ (m : ℕ). take m (t ++ replicate (n - length t) 0)) e ∙ take-append-seam t (replicate (n - length t) 0)
+
+-- THEOREM: every question that code can hold and `write` accepts; k is what `write` answers, and the first k bytes of the buffer are read
+pub written-and-read :
+    (q : Question) (o : List ℕ) (k : ℕ) → Held q → writing q (length o) ≡ Length k
+    → Returns q (readOf (take k (leaves (writing q (length o)) (textIn q) o)))
+written-and-read q o k h e =
+    let a = accepts q (length o) k e in
+    let text : take k (leaves (writing q (length o)) (textIn q) o) ≡ textIn q =
+    ap (λ (x : Wrote). take k (leaves x (textIn q) o)) e ∙ front (length o) k (textIn q) (a .size) in
+    subst (λ (l : List ℕ). Returns q (readOf l)) (sym text)
+    (write-then-read q (h .sizes) (a .lawful) (held-want q h (a .right)) (held-threads q h))

@@ -5,5 +5,7 @@ pub mod Back
 pub mod Round
 pub mod Sizes
 pub mod Pieces
+pub mod Held
 pub mod Doors
+pub mod Examples
 pub mod Unique
