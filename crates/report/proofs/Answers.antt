@@ -6,10 +6,11 @@ use mathlib.Core.Option.{some}
 use mathlib.Core.List.{List, [], _∷_, List·Memᴰ, List·Memᴰ·head, List·Memᴰ·tail}
 use native.Mathlib.Omega.{arith}
 use native.Mathlib.Nat.{mul-suc}
-use borrow.Author.Tests.{leb-true}
+use native.Mathlib.Decide.{decLt}
+use borrow.Author.Tests.{leb-true, lt-ltb, le-ltb}
 use lib.Dec.{leb}
 use lib.ListN.{length, getD, getElem?}
-use Rattle.names.specs.Names.{locations, mostRuns, isBudget}
+use Rattle.names.specs.Names.{pick, locations, mostRuns, isBudget}
 use Rattle.names.specs.declared.Budget.{Budget}
 use Rattle.program.specs.declared.Op.{Op}
 use Rattle.program.specs.declared.Op.the-variants.{St, Sr, Ld, Cas, Faa, Mf, Sf, Fl, Fo, Bz}
@@ -38,16 +39,19 @@ use Rattle.words.proofs.Want.{want-count}
 use Rattle.question.specs.Question.{Asked, Short, AllWithin, ThreadsWithin, programOf, holding, questionOf}
 use Rattle.question.proofs.Made.{prog-back, wanted-back}
 use Rattle.question.proofs.Lawful.{within-short}
-use Rattle.text.specs.Read.{Head, Outcome, refused, accepted, askedOf, readText}
+use Rattle.text.specs.Read.{Head, Outcome, refused, accepted, askedOf, readText, parsedOf, readOf}
+use Rattle.text.specs.declared.Parsed.{Parsed}
+use Rattle.text.specs.declared.Verdict.the-variants.{Accepted, Refused}
+use Rattle.text.proofs.Ends.{read-is}
 use Rattle.text.proofs.Legal.{Fitting, accepted-fits, fitting-legal, fitting-want}
 use Rattle.rows.specs.Rows.{Wide}
 use Rattle.say.specs.Said.{said, refusedText}
 use Rattle.say.specs.Kept.{Bytes, KeptAll, KeptRun, Kept}
 use Rattle.say.proofs.Values.{Stores, AllStore, left-bytes}
 use Rattle.say.proofs.Bound.{longest, refused-long, said-long}
-use Rattle.report.specs.Response.{mostLent, answerTo, responseTo, responseOf}
+use Rattle.report.specs.Response.{mostLent, lentOf, mostPrinted, answerTo, responseTo, responseOf}
 use Rattle.report.specs.Heard.{Sized, answerIn, Asks}
-use Rattle.report.proofs.Lines.{Numbered, read-numbered}
+use Rattle.report.proofs.Lines.{mostLine, Numbered, read-numbered}
 
 -- what is read stores bytes
 within-stores : (locs : ℕ) (o : Op) → Within locs o → Stores o
@@ -185,3 +189,61 @@ module _ (a : Asked) (f : Fitting a) where
         sized = rw (fitting-answer lent) (kept-sized (questionOf a .program .locs) lent (answerTo lent a) h k);
         fits = rw (fitting-answer lent) (omega (arith, said-long (questionOf a .program .locs) lent (answerTo lent a) h k));
       }
+
+-- what the code read, by its verdict
+was-refused : (x : Outcome) (r : Parsed) (k n : ℕ) → r ≡ parsedOf x → r .verdict ≡ Refused k n → x ≡ refused k n
+unfolding parsedOf
+was-refused (refused i m) r k n e v =
+    let q : Refused i m ≡ Refused k n = sym (ap (λ (y : Parsed). y .verdict) e) ∙ v in
+    cc
+was-refused (accepted a) r k n e v =
+    let q : Accepted ≡ Refused k n = sym (ap (λ (y : Parsed). y .verdict) e) ∙ v in
+    let z : _≡_ {A = ℕ} 0 1 = cc in
+    absurd (omega arith)
+
+was-accepted : (x : Outcome) (r : Parsed) → r ≡ parsedOf x → r .verdict ≡ Accepted → (a : Asked) × (x ≡ accepted a) × (r .question ≡ questionOf a)
+unfolding parsedOf
+was-accepted (refused i m) r e v =
+    let q : Refused i m ≡ Accepted = sym (ap (λ (y : Parsed). y .verdict) e) ∙ v in
+    let z : _≡_ {A = ℕ} 0 1 = cc in
+    absurd (omega arith)
+was-accepted (accepted a) r e v = (a, refl, ap (λ (y : Parsed). y .question) e)
+
+module _ (l : List ℕ) (r : Parsed) (e : r ≡ readOf l) where
+  reads : r ≡ parsedOf (readText l)
+  reads = e ∙ sym (read-is l)
+
+  -- a refusal: its text, and that its numbers are small
+  module _ (k n : ℕ) (v : r .verdict ≡ Refused k n) where
+    pub refused-says : (lent : ℕ) → responseOf lent l ≡ refusedText k n
+    unfolding responseOf responseTo
+    refused-says lent = rw (was-refused (readText l) r k n reads v)
+
+    pub refused-small : (k ≤ 5) × (n ≤ mostLine)
+    refused-small = subst Numbered (was-refused (readText l) r k n reads v) (read-numbered l)
+
+  -- a question: what asking it needs, and its text
+  module _ (v : r .verdict ≡ Accepted) (lent : ℕ) where
+    pub accepted-asks : (room : ℕ) → lent ≤ mostLent → mostPrinted ≤ room → Asks (r .question) lent room
+    accepted-asks room h m =
+        let a = was-accepted (readText l) r reads v in
+        rw (a .2) (fitting-asks (a .0) (accepted-fits l (a .0) (a .1)) lent room h (omega arith))
+
+    pub accepted-says : responseOf lent l ≡ said (answerIn (r .question) lent)
+    unfolding responseOf responseTo
+    accepted-says =
+        let a = was-accepted (readText l) r reads v in
+        ap (responseTo lent) (a .1)
+        ∙ (ap said (sym (fitting-answer (a .0) (accepted-fits l (a .0) (a .1)) lent)) ∙ ap (λ (q : Question). said (answerIn q lent)) (sym (a .2)))
+
+-- how many bytes are lent
+pub lent-most : (n : ℕ) → mostLent < n → lentOf n ≡ mostLent
+unfolding pick
+lent-most n h = rw (lt-ltb mostLent n h)
+
+pub lent-all : (n : ℕ) → n ≤ mostLent → lentOf n ≡ n
+unfolding pick
+lent-all n h = rw (le-ltb mostLent n h)
+
+pub lent-few : (n : ℕ) → lentOf n ≤ mostLent
+lent-few n = elim (decLt mostLent n) [ yes h ↦ omega (arith, lent-most n h) | no h ↦ omega (arith, lent-all n (omega arith)) ]

@@ -14,11 +14,16 @@ use Rattle.program.specs.declared.Want.{Want}
 use Rattle.program.specs.Program.{wantedOf}
 use Rattle.program.specs.Program.Wanted.{all, one}
 use Rattle.number.specs.Put.{put}
+use Rattle.number.proofs.Put.{length-put}
 use Rattle.px86.specs.Ask.{Answer}
 use Rattle.px86.specs.Ask.Answer.{every, reached, never, none}
 use Rattle.rows.specs.Rows.{flat, Wide}
 use Rattle.rows.proofs.Flat.{flat-length}
 use Rattle.ask.specs.Asked.{answerOf, bufferOf}
+use Rattle.ask.specs.declared.Answer.{Answer as Coded}
+use Rattle.ask.specs.declared.Answer.the-variants as coded
+use Rattle.px86.specs.declared.Refusal.{Refusal}
+use Rattle.say.specs.Said.{allText, reachedText, neverText, refusalText, said}
 use Rattle.report.specs.Heard.{heard, There, Sized}
 
 -- what is wanted, by the code's two cases
@@ -55,7 +60,32 @@ module _ (w : ℕ) (o : List ℕ) where
   there-back (never n) h = tt
   there-back (none x) h = tt
 
+-- what is printed for each of the code's answers
+module _ (w : ℕ) (o : List ℕ) (a : Coded) where
+  pub says-all : (n k : ℕ) → a ≡ coded.All n k → said (heard w o a) ≡ allText n (rows w o (replicate k w))
+  unfolding said heard
+  says-all n k e = rw e
+
+  pub says-reached : (n k : ℕ) → a ≡ coded.Reached n k → said (heard w o a) ≡ reachedText n (take k o)
+  unfolding said heard
+  says-reached n k e = rw e
+
+  pub says-never : (n : ℕ) → a ≡ coded.Never n → said (heard w o a) ≡ neverText n
+  unfolding said heard
+  says-never n e = rw e
+
+  pub says-refusal : (x : Refusal) → a ≡ coded.Refused x → said (heard w o a) ≡ refusalText x
+  unfolding said heard
+  says-refusal x e = rw e
+
 -- a text that was put at the front, and 0 behind it
-pub front-zeros : (d t : List ℕ) (n : ℕ) → n ≡ length t → length t ≤ length d → take n (put d 0 t) ++ replicate (length d - n) 0 ≡ padded (length d) 0 t
-unfolding put padded
-front-zeros d t n e h = rw (e, take-at t (drop (0 + length t) d) (length t) refl) refl
+front-put : (d t : List ℕ) → take (length t) (put d 0 t) ≡ t
+unfolding put
+front-put d t = take-at t (drop (0 + length t) d) (length t) refl
+
+pub front-zeros : (d b t : List ℕ) (n m : ℕ) → b ≡ put d 0 t → n ≡ length t → length d ≡ m → length t ≤ m
+    → take n b ++ replicate (length b - n) 0 ≡ padded m 0 t
+unfolding padded
+front-zeros d b t n m p e k h =
+    let l : length (put d 0 t) ≡ m = length-put d 0 t (omega arith) ∙ k in
+    rw (p, e, l, front-put d t) refl

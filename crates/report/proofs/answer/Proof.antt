@@ -1,3 +1,11 @@
+-- `report::answer` meets its contract. Assumes nothing.
+use native.Mathlib.Omega.{arith}
+use mathlib.Core.Path.{_≡_, refl, sym, _∙_, ap}
+use mathlib.Core.List.{List}
+use Prim.Native.Nat.{ℕ, _≤_}
+use lib.ListN.{length, take}
+use lib.Seq.{length-take-le}
+use Rattle.report.proofs.Back.{wants-all, wants-one}
 use borrow.Author.Needs.{needs}
 use Rattle.report.proofs.answer.Statement.{statement}
 use Rattle.report.proofs.answer.Tie as tie
@@ -6,41 +14,44 @@ use Rattle.report.proofs.answer.Lts as lts
 use Rattle.ask.proofs.ask_all.Reads as ask-all-reads
 use Rattle.ask.proofs.ask_one.Reads as ask-one-reads
 
--- src/lib.rt:29:9
 ask-all-requires : tie.Need-ask-all-requires
 ask-all-requires c κs = search needs
 
--- src/lib.rt:29:9
 same-length : tie.Need-same-length
 same-length c = search needs
 
--- src/lib.rt:29:9
 returns : tie.Need-returns
-returns c = ?
+returns c = 
+    let s = c .before .before .before .before .before .before .before .before .before in
+    rw (wants-all (s .args .q .want) (c .before .before .before .before .if1 .taken)) (c .before .before .ask-all .ensures)
 
--- src/lib.rt:32:13
 cast-n : tie.Need-cast-n
 cast-n c = search needs
 
--- src/lib.rt:33:24
 array-share-prefix-values : tie.Need-array-share-prefix-values
-array-share-prefix-values c = ?
+array-share-prefix-values c = 
+    let s = c .before .before .before .before .before .before .before in
+    let six : length (s .args .q .want .values) ≡ 6 = search needs in
+    omega (arith, s .pre (c .before .before .if1 .left))
 
--- src/lib.rt:33:24
 slice-aggregate-ask-one : tie.Need-slice-aggregate-ask-one
-slice-aggregate-ask-one c = ?
+slice-aggregate-ask-one c = 
+    let s = c .before .before .before .before .before .before .before .before in
+    let six : length (s .args .q .want .values) ≡ 6 = search needs in
+    sym (length-take-le (s .args .q .want .count) (s .args .q .want .values) (omega (arith, s .pre (c .before .before .before .if1 .left))))
 
--- src/lib.rt:33:5
 ask-one-requires : tie.Need-ask-one-requires
 ask-one-requires c κs = search needs
 
--- src/lib.rt:20:1
 same-length-2 : tie.Need-same-length-2
 same-length-2 c = search needs
 
--- src/lib.rt:20:1
 returns-2 : tie.Need-returns-2
-returns-2 c = ?
+returns-2 c = 
+    let s = c .before .before .before .before .before .before .before .before .before .before .before .before in
+    let six : length (s .args .q .want .values) ≡ 6 = search needs in
+    let e = c .before .before .before .before .before .before .before .if1 .left in
+    rw (wants-one (s .args .q .want) e (omega (arith, s .pre e))) (c .before .before .ask-one .ensures)
 
 pub answer-spec : {M : Type 1} → statement M
 answer-spec =
