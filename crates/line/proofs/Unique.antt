@@ -23,6 +23,8 @@ use Rattle.line.proofs.numbers.Kinds as numbers
 use Rattle.line.proofs.numbers.Reads as numbers-reads
 use Rattle.line.proofs.put_number_line.Kinds as put-number-line
 use Rattle.line.proofs.put_number_line.Reads as put-number-line-reads
+use Rattle.line.proofs.put_value.Kinds as put-value
+use Rattle.line.proofs.put_value.Reads as put-value-reads
 use Rattle.line.proofs.put_values.Kinds as put-values
 use Rattle.line.proofs.put_values.Reads as put-values-reads
 
@@ -59,3 +61,8 @@ pub put-values-once :
     (κs : Lfts 1) (a : Dens κs put-values.ps) (x y : ℕ) (e f : AtExit (endedOf 1 put-values.ps put-values.r) κs) →
     put-values-reads.Post κs a x e → put-values-reads.Post κs a y f → (x ≡ y) × (e .0 .now ≡ f .0 .now)
 put-values-once κs a x y e f p q = (p .0 ∙ sym (q .0), p .1 ∙ sym (q .1))
+
+pub put-value-once :
+    (κs : Lfts 1) (a : Dens κs put-value.ps) (x y : ℕ) (e f : AtExit (endedOf 1 put-value.ps put-value.r) κs) →
+    put-value-reads.Post κs a x e → put-value-reads.Post κs a y f → (x ≡ y) × (e .0 .now ≡ f .0 .now)
+put-value-once κs a x y e f p q = (p .0 ∙ sym (q .0), p .1 ∙ sym (q .1))

@@ -197,8 +197,8 @@ pub fn put_number_line(buf: &mut [u8], at: usize, w: &[u8], n: u32) -> usize
     number::put_bytes(buf, f, b"\n")
 }
 
-// Writes a comma and a number.
-fn put_value(buf: &mut [u8], at: usize, v: u32) -> usize
+// Writes a comma and a number, and returns the place behind it.
+pub fn put_value(buf: &mut [u8], at: usize, v: u32) -> usize
     requires { ⌜ at + length (44 ∷ decimal v) ≤ length (now buf) ⌝ }
     ensures { λ r. ⌜ (r ≡ at + length (44 ∷ decimal v)) × (now (buf .exit) ≡ put (now (buf .entry)) at (44 ∷ decimal v)) ⌝ }
 {

@@ -1,0 +1,172 @@
+-- The reader's refusals: their numbers are at most 5, and their lines at most 1,026. Assumes nothing.
+use Prim.Native.Nat.{ℕ, suc, _+_, _*_, _≤_, _<_}
+use mathlib.Core.Path.{_≡_, refl, sym, ap, _∙_}
+use mathlib.Core.Bool.{Bool, true, false}
+use mathlib.Core.Option.{Option, none, some}
+use mathlib.Core.List.{List, [], _∷_, _++_}
+use native.Mathlib.Omega.{arith}
+use borrow.Author.Tests.{ltb-false}
+use lib.Dec.{ltb, eqb}
+use lib.ListN.{length, length-append}
+use Rattle.names.specs.Names.{pick, threads, locations, mostRuns}
+use Rattle.program.specs.declared.Op.{Op}
+use Rattle.program.specs.Program.{Wanted, mostOps}
+use Rattle.line.specs.declared.Field.{Field}
+use Rattle.line.specs.declared.Field.the-variants as field
+use Rattle.line.specs.Split.{onFirst, split, begins, lineFeed}
+use Rattle.line.specs.Line.{numberLine}
+use Rattle.words.specs.declared.OpLine.{OpLine}
+use Rattle.words.specs.declared.OpLine.the-variants as op
+use Rattle.words.specs.Op.{opKey, opLine}
+use Rattle.words.specs.Want.{WantLine, shape, limit, fine, wantLine}
+use Rattle.question.specs.Question.{Asked, Short}
+use Rattle.question.specs.Past.{leaps, pastIn, orElse, past, firstThread}
+use Rattle.question.proofs.Four.{short-last}
+use Rattle.question.proofs.Lawful.{within-short}
+use Rattle.text.specs.Read.{Head, So, nothing, threaded, located, budgeted, wanting, inside, Step, fault, next, onNumber, onWant, onTurn, onOp, threadLine, threadsKey, locsKey, budgetKey, step, Outcome, refused, accepted, askedOf, onPast, end, onStep, readParts, mostBytes, readText}
+use Rattle.text.specs.Packed.{Valid}
+use Rattle.text.proofs.Keeps.{valid-step}
+
+-- a line's fault has one of the numbers 2 to 4
+abbrev Faults : Step → Type 0
+Faults (fault k) = k ≤ 4
+Faults (next u) = Unit {0}
+
+number-faults : (f : Field) (k : ℕ → So) → Faults (onNumber f k)
+number-faults field.Shape k = omega arith
+number-faults field.Limit k = omega arith
+number-faults (field.Fine n) k = tt
+
+want-faults : (w : WantLine) (k : Wanted → So) → Faults (onWant w k)
+want-faults shape k = omega arith
+want-faults limit k = omega arith
+want-faults (fine w) k = tt
+
+turn-faults : (f : Field) (u : So) → Faults (onTurn f u)
+turn-faults field.Shape u = omega arith
+turn-faults field.Limit u = omega arith
+turn-faults (field.Fine n) u = tt
+
+pick-faults : (t : Bool) (a b : Step) → Faults a → Faults b → Faults (pick t a b)
+unfolding pick
+pick-faults true a b p q = p
+pick-faults false a b p q = q
+
+op-faults : (o : OpLine) (ops : List Op) (k : Op → So) → Faults (onOp o ops k)
+op-faults op.BadShape ops k = omega arith
+op-faults op.BadLimit ops k = omega arith
+op-faults (op.Fine o) ops k = pick-faults (ltb (length ops) mostOps) (next (k o)) (fault 4) tt (omega arith)
+
+step-faults : (u : So) (l : List ℕ) → Faults (step u l)
+unfolding step
+step-faults nothing l = number-faults (numberLine threadsKey 1 threads l) threaded
+step-faults (threaded t) l = number-faults (numberLine locsKey 1 locations l) (located t)
+step-faults (located t n) l = number-faults (numberLine budgetKey 1 mostRuns l) (budgeted t n)
+step-faults (budgeted t n b) l = want-faults (wantLine n l) (λ w. wanting (record { threads = t; locs = n; budget = b; want = w }))
+step-faults (wanting h) l = turn-faults (threadLine 0 l) (inside h [] [])
+step-faults (inside h done ops) l =
+    let o = onOp (opLine (h .locs) l) ops (λ o. inside h done (ops ++ o ∷ [])) in
+    let t = onTurn (threadLine (length done + 1) l) (inside h (done ++ ops ∷ []) []) in
+    let later = ltb (length done + 1) (h .threads) in
+    pick-faults (begins opKey l) o (pick later t (fault 2)) (op-faults (opLine (h .locs) l) ops (λ o. inside h done (ops ++ o ∷ [])))
+    (pick-faults later t (fault 2) (turn-faults (threadLine (length done + 1) l) (inside h (done ++ ops ∷ []) [])) (omega arith))
+
+-- the line of a bz past its thread's end is one of the program's
+abbrev UpTo : ℕ → Option ℕ → Type 0
+UpTo n none = Unit {0}
+UpTo n (some m) = m ≤ n
+
+pick-up : (n : ℕ) (t : Bool) (a b : Option ℕ) → UpTo n a → UpTo n b → UpTo n (pick t a b)
+unfolding pick
+pick-up n true a b p q = p
+pick-up n false a b p q = q
+
+more-up : (n m : ℕ) (a : Option ℕ) → n ≤ m → UpTo n a → UpTo m a
+more-up n m none h p = tt
+more-up n m (some k) h p = omega arith
+
+else-up : (n : ℕ) (a b : Option ℕ) → UpTo n a → UpTo n b → UpTo n (orElse a b)
+else-up n none b p q = q
+else-up n (some m) b p q = p
+
+in-up : (n : ℕ) (os : List Op) → UpTo (n + length os) (pastIn n os)
+unfolding pastIn
+in-up n [] = tt
+in-up n (o ∷ os) =
+    pick-up (n + suc (length os)) (leaps (length os) o) (some n) (pastIn (n + 1) os) (omega arith)
+    (more-up (n + 1 + length os) (n + suc (length os)) (pastIn (n + 1) os) (omega arith) (in-up (n + 1) os))
+
+past-up : (n : ℕ) (oss : List (List Op)) → Short oss → UpTo (n + 9 * length oss) (past n oss)
+unfolding past
+past-up n [] h = tt
+past-up n (os ∷ oss) h =
+    let s : length os ≤ 8 = h .0 in
+    else-up (n + 9 * suc (length oss)) (pastIn (n + 1) os) (past (n + 1 + length os) oss)
+    (more-up (n + 1 + length os) (n + 9 * suc (length oss)) (pastIn (n + 1) os) (omega arith) (in-up (n + 1) os))
+    (more-up (n + 1 + length os + 9 * length oss) (n + 9 * suc (length oss)) (past (n + 1 + length os) oss) (omega arith) (past-up (n + 1 + length os) oss (h .1)))
+
+-- a refusal of the reader
+abbrev pub mostLine : ℕ
+mostLine = 1026
+
+abbrev pub Numbered : Outcome → Type 0
+Numbered (refused k n) = (k ≤ 5) × (n ≤ mostLine)
+Numbered (accepted a) = Unit {0}
+
+pick-numbered : (t : Bool) (a b : Outcome) → Numbered a → Numbered b → Numbered (pick t a b)
+unfolding pick
+pick-numbered true a b p q = p
+pick-numbered false a b p q = q
+
+past-numbered : (x : Option ℕ) (a : Asked) → UpTo 41 x → Numbered (onPast x a)
+past-numbered none a h = tt
+past-numbered (some n) a h = (omega arith, omega arith)
+
+end-numbered : (u : So) (n : ℕ) (l : List ℕ) → Valid u → n ≤ mostLine → Numbered (end u n l)
+end-numbered nothing n l v h = (omega arith, h)
+end-numbered (threaded t) n l v h = (omega arith, h)
+end-numbered (located t m) n l v h = (omega arith, h)
+end-numbered (budgeted t m b) n l v h = (omega arith, h)
+end-numbered (wanting d) n l v h = (omega arith, h)
+end-numbered (inside d done ops) n (c ∷ l) v h = (omega arith, h)
+end-numbered (inside d done ops) n [] v h =
+    let oss = done ++ ops ∷ [] in
+    let few : length oss ≤ 4 = omega (arith, length-append done (ops ∷ []), v .few, v .head .threads .1) in
+    pick-numbered (eqb (length done + 1) (d .threads)) (onPast (past firstThread oss) (askedOf d oss)) (refused 2 n)
+    (past-numbered (past firstThread oss) (askedOf d oss)
+    (more-up (firstThread + 9 * length oss) 41 (past firstThread oss) (omega arith) (past-up firstThread oss (short-last done ops (within-short (d .locs) done (v .before)) (v .short)))))
+    (omega arith, h)
+
+step-numbered : (q : Step) (n : ℕ) (f : So → Outcome) → Faults q → n ≤ mostLine → ((u : So) → q ≡ next u → Numbered (f u)) → Numbered (onStep q n f)
+step-numbered (fault k) n f p h g = (omega arith, h)
+step-numbered (next u) n f p h g = g u refl
+
+parts-numbered : (ps : List (List ℕ)) (u : So) (n : ℕ) → Valid u → n + length ps ≤ mostLine → Numbered (readParts ps u n)
+unfolding readParts
+parts-numbered [] u n v h = (omega arith, omega arith)
+parts-numbered (p ∷ []) u n v h = end-numbered u n p v (omega arith)
+parts-numbered (p ∷ q ∷ r) u n v h =
+    step-numbered (step u p) n (λ w. readParts (q ∷ r) w (n + 1)) (step-faults u p) (omega arith)
+    (λ w e. parts-numbered (q ∷ r) w (n + 1) (valid-step u w p v e) (omega arith))
+
+-- there are at most as many lines as line feeds, and what stands behind the last
+split-length : (b : ℕ) (l : List ℕ) → length (split b l) ≤ suc (length l)
+unfolding split pick
+split-length b [] = omega arith
+split-length b (c ∷ l) = go (eqb c b) refl (split-length b l)
+  where
+    first : (ps : List (List ℕ)) → length ps ≤ suc (length l) → length (onFirst c ps) ≤ suc (suc (length l))
+    first [] h = omega arith
+    first (p ∷ ps) h = omega arith
+    go : (t : Bool) → eqb c b ≡ t → length (split b l) ≤ suc (length l) → length (split b (c ∷ l)) ≤ suc (suc (length l))
+    go true e h = rw e (omega arith)
+    go false e h = rw e (first (split b l) h)
+
+-- THEOREM: the reader's refusals have the numbers 1 to 5 at most, and a line
+pub read-numbered : (l : List ℕ) → Numbered (readText l)
+unfolding readText pick
+read-numbered l = go (ltb mostBytes (length l)) refl
+  where
+    go : (t : Bool) → ltb mostBytes (length l) ≡ t → Numbered (readText l)
+    go true e = rw e (omega arith, omega arith)
+    go false e = rw e (parts-numbered (split lineFeed l) nothing 1 tt (omega (arith, split-length lineFeed l, ltb-false mostBytes (length l) e)))
