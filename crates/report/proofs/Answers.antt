@@ -83,9 +83,10 @@ module _ (p : Program) (b : Budget) (ok : legalAsked p b ≡ true) (st : AllStor
   budget-most = leb-true (b .0) mostRuns (both (leb 1 (b .0)) (leb (b .0) mostRuns) (both (legal p) (isBudget (b .0)) ok .1) .1)
 
   left-kept : (v : List ℕ) → LeftBy (progOf p) v → (length v ≡ p .locs) × Bytes v
-  left-kept v l =
-      (left-sized p (asked-ok p b ok) v (l .codes) (l .leaves),
-      subst Bytes (sym (l .leaves .is)) (left-bytes (progOf p) st (l .codes) (l .leaves .state) (l .leaves .allowed)))
+  left-kept v l = (
+    left-sized p (asked-ok p b ok) v (l .codes) (l .leaves),
+    subst Bytes (sym (l .leaves .is)) (left-bytes (progOf p) st (l .codes) (l .leaves .state) (l .leaves .allowed)),
+  )
 
   all-kept : (x : Answer) → MeansAll (progOf p) (b .0) lent x → Kept (p .locs) lent x
   unfolding progOf

@@ -158,6 +158,7 @@ split-length b (c ∷ l) = go (eqb c b) refl (split-length b l)
     first : (ps : List (List ℕ)) → length ps ≤ suc (length l) → length (onFirst c ps) ≤ suc (suc (length l))
     first [] h = omega arith
     first (p ∷ ps) h = omega arith
+
     go : (t : Bool) → eqb c b ≡ t → length (split b l) ≤ suc (length l) → length (split b (c ∷ l)) ≤ suc (suc (length l))
     go true e h = rw e (omega arith)
     go false e h = rw e (first (split b l) h)

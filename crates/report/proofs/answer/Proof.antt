@@ -21,7 +21,7 @@ same-length : tie.Need-same-length
 same-length c = search needs
 
 returns : tie.Need-returns
-returns c = 
+returns c =
     let s = c .before .before .before .before .before .before .before .before .before in
     rw (wants-all (s .args .q .want) (c .before .before .before .before .if1 .taken)) (c .before .before .ask-all .ensures)
 
@@ -29,13 +29,13 @@ cast-n : tie.Need-cast-n
 cast-n c = search needs
 
 array-share-prefix-values : tie.Need-array-share-prefix-values
-array-share-prefix-values c = 
+array-share-prefix-values c =
     let s = c .before .before .before .before .before .before .before in
     let six : length (s .args .q .want .values) ≡ 6 = search needs in
     omega (arith, s .pre (c .before .before .if1 .left))
 
 slice-aggregate-ask-one : tie.Need-slice-aggregate-ask-one
-slice-aggregate-ask-one c = 
+slice-aggregate-ask-one c =
     let s = c .before .before .before .before .before .before .before .before in
     let six : length (s .args .q .want .values) ≡ 6 = search needs in
     sym (length-take-le (s .args .q .want .count) (s .args .q .want .values) (omega (arith, s .pre (c .before .before .before .if1 .left))))
@@ -47,7 +47,7 @@ same-length-2 : tie.Need-same-length-2
 same-length-2 c = search needs
 
 returns-2 : tie.Need-returns-2
-returns-2 c = 
+returns-2 c =
     let s = c .before .before .before .before .before .before .before .before .before .before .before .before in
     let six : length (s .args .q .want .values) ≡ 6 = search needs in
     let e = c .before .before .before .before .before .before .before .if1 .left in

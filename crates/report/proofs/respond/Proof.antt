@@ -23,7 +23,7 @@ clear-requires : tie.Need-clear-requires
 clear-requires c κs = search needs
 
 zero-from-requires : tie.Need-zero-from-requires
-zero-from-requires c κs = 
+zero-from-requires c κs =
     let s = c .before .before .before .before .before .before .before .before .before .before .before .before in
     let r = c .before .before .before .before .before .before .before .respond-in in
     let n : length (s .args .out .now) ≡ 32768 = search needs in
@@ -33,15 +33,18 @@ same-length : tie.Need-same-length
 same-length c = search needs
 
 returns : tie.Need-returns
-returns c = 
+returns c =
     let u = c .before .before .before .before .before .before .before .before .before .before .before .before .before .args in
     let r = c .before .before .before .before .before .before .before .before .respond-in in
     let n : length (u .out .now) ≡ 32768 = search needs in
     let t = responseOf (lentOf (length (u .room .now))) (u .text .now) in
-    let h : length t ≤ 32768 = omega (arith, response-long (lentOf (length (u .room .now))) (u .text .now) (lent-few (length (u .room .now)))) in
-    (r .ensures .0,
-    (c .zero-from .ensures ∙ front-zeros (u .out .now) (r .last .1 .1 .0) t (r .result) 32768 (r .ensures .1) (r .ensures .0) n h,
-    c .before .before .before .before .clear .ensures ∙ ap (λ (k : ℕ). replicate k 0) (r .kept .1 .0)))
+    let h : length t ≤ 32768 = omega (arith, response-long (lentOf (length (u .room .now))) (u .text .now) (lent-few (length (u .room .now)))) in (
+      r .ensures .0,
+      (
+        c .zero-from .ensures ∙ front-zeros (u .out .now) (r .last .1 .1 .0) t (r .result) 32768 (r .ensures .1) (r .ensures .0) n h,
+        c .before .before .before .before .clear .ensures ∙ ap (λ (k : ℕ). replicate k 0) (r .kept .1 .0),
+      ),
+    )
 
 pub respond-spec : {M : Type 1} → statement M
 respond-spec =

@@ -22,14 +22,15 @@ answer-requires : tie.Need-answer-requires
 answer-requires c κs = search needs
 
 print-requires : tie.Need-print-requires
-print-requires c κs = 
+print-requires c κs =
     let s = c .before .before .before .before .before .before .before .before .before .before in
     let u = s .args in
     let g = c .before .before .before .before .answer in
     let x = answerIn (u .q) (length (u .room .now)) in
-    rw (g .ensures .0, g .ensures .1)
-    (there-back (u .q .program .locs) (u .room .now) x (s .pre .sized),
-    rw (heard-back (u .q .program .locs) (u .room .now) x (s .pre .sized)) (s .pre .fits))
+    rw (g .ensures .0, g .ensures .1) (
+      there-back (u .q .program .locs) (u .room .now) x (s .pre .sized),
+      rw (heard-back (u .q .program .locs) (u .room .now) x (s .pre .sized)) (s .pre .fits),
+    )
 
 same-length : tie.Need-same-length
 same-length c = search needs
@@ -38,7 +39,7 @@ same-length-2 : tie.Need-same-length-2
 same-length-2 c = search needs
 
 returns : tie.Need-returns
-returns c = 
+returns c =
     let s = c .before .before .before .before .before .before .before .before .before .before .before .before .before in
     let u = s .args in
     let g = c .before .before .before .before .before .before .before .answer in

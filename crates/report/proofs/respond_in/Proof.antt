@@ -29,12 +29,12 @@ wide-requires : tie.Need-wide-requires
 wide-requires c κs = search needs
 
 cast-print-refused : tie.Need-cast-print-refused
-cast-print-refused c = 
+cast-print-refused c =
     let r = c .before .before .before .before .before in
     omega (arith, refused-small (r .before .before .before .before .args .text .now) (r .read .result) (r .read .ensures) _ _ (c .before .before .before .v .given .1))
 
 print-refused-requires : tie.Need-print-refused-requires
-print-refused-requires c κs = 
+print-refused-requires c κs =
     let r = c .before .before .before .before .before in
     let h = refused-small (r .before .before .before .before .args .text .now) (r .read .result) (r .read .ensures) _ _ (c .before .before .before .v .given .1) in
     omega (arith, refused-long (c .wide .result) (c .before .before .before .v .given .0 .1 .0) (omega (arith, c .wide .ensures .0)) (omega arith), r .before .before .before .before .pre)
@@ -46,12 +46,12 @@ slice-relend-prefix-respond-asked : tie.Need-slice-relend-prefix-respond-asked
 slice-relend-prefix-respond-asked c = search needs
 
 slice-aggregate-respond-asked : tie.Need-slice-aggregate-respond-asked
-slice-aggregate-respond-asked c = 
+slice-aggregate-respond-asked c =
     let u = c .before .before .before .before .before .before .before .before .before .args in
     sym (length-take-le 4096 (u .room .now) (omega arith))
 
 respond-asked-requires : tie.Need-respond-asked-requires
-respond-asked-requires c κs = 
+respond-asked-requires c κs =
     let s = c .before .before .before .before .before .before .before .before .before .before in
     let r = c .before .before .before .before .before .before .read in
     accepted-asks (s .args .text .now) (r .result) (r .ensures) (c .before .before .before .before .enum-told .given .1) _ _ (omega (arith, length-take-le 4096 (s .args .room .now) (omega arith))) (s .pre)
@@ -63,7 +63,7 @@ same-length-2 : tie.Need-same-length-2
 same-length-2 c = search needs
 
 returns : tie.Need-returns
-returns c = 
+returns c =
     let u = c .before .before .before .before .before .before .before .before .before .before .before .before .before .before .before .args in
     let r = c .before .before .before .before .before .before .before .before .before .before .before .read in
     let n = length-take-le 4096 (u .room .now) (omega (arith, c .before .before .before .before .before .before .before .if1 .taken)) in
@@ -73,7 +73,7 @@ returns c =
     rw e (c .before .before .before .before .respond-asked .ensures)
 
 respond-asked-requires-2 : tie.Need-respond-asked-requires-2
-respond-asked-requires-2 c κs = 
+respond-asked-requires-2 c κs =
     let s = c .before .before .before .before .before .before .before .before .before .before in
     let r = c .before .before .before .before .before .before .read in
     accepted-asks (s .args .text .now) (r .result) (r .ensures) (c .before .before .before .before .enum-told .given .1) _ _ (omega arith) (s .pre)
@@ -82,7 +82,7 @@ same-length-3 : tie.Need-same-length-3
 same-length-3 c = search needs
 
 returns-2 : tie.Need-returns-2
-returns-2 c = 
+returns-2 c =
     let u = c .before .before .before .before .before .before .before .before .before .before .before .before .args in
     let r = c .before .before .before .before .before .before .before .before .read in
     let w = c .before .before .before .wide in
@@ -99,7 +99,7 @@ same-length-5 : tie.Need-same-length-5
 same-length-5 c = search needs
 
 returns-3 : tie.Need-returns-3
-returns-3 c = 
+returns-3 c =
     let u = c .before .before .before .before .before .before .before .before .before .before .before .before .before .before .before .args in
     let r = c .before .before .before .before .before .before .before .before .before .before .before .read in
     let e =
