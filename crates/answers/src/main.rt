@@ -1,5 +1,6 @@
 // The proved side of the comparison: takes requests of the harness on standard input, up to 500, and writes a response for each
 // (harness/src/protocol.rs says how they look).
+ghost use Prim.Native.Nat.{_≤_};
 use follow::Outcome;
 use follow::follow;
 use libc::STDIN_FILENO;
@@ -11,20 +12,31 @@ use text::read;
 use write::Wrote;
 use write::write;
 
-// The number of two bytes, the lower first; and a number as such bytes.
-fn number(bytes: [u8; 2]) -> usize {
-    (bytes[1] as usize) * 256 + (bytes[0] as usize)
+// A byte as a number; and the smaller of a number and the most that it may be.
+fn wide(b: u8) -> usize
+    ensures { λ r. ⌜ r ≤ 255 ⌝ }
+{
+    b as usize
 }
 
+fn capped(n: usize, most: usize) -> usize
+    ensures { λ r. ⌜ r ≤ most ⌝ }
+{
+    if n < most { n } else { most }
+}
+
+// A number as two bytes, the lower first.
 fn two(n: usize) -> [u8; 2] {
     [(n % 256) as u8, (n / 256 % 256) as u8]
 }
 
 // Two bytes of the input as a number; 0 at its end.
-fn take_number() -> usize {
+fn take_number() -> usize
+    ensures { λ r. ⌜ r ≤ 65535 ⌝ }
+{
     let mut bytes = [0u8; 2];
     io::read_full(STDIN_FILENO, &mut bytes);
-    number(bytes)
+    wide(bytes[1]) * 256 + wide(bytes[0])
 }
 
 fn put(bytes: &[u8]) {
@@ -44,33 +56,54 @@ fn put_refused(number: u8, line: usize) {
     put_number(line);
 }
 
-// What bench prints for the text, where so many bytes are lent.
-fn answer(text: &[u8], lent: usize) {
-    let mut room = [0u8; 4096];
-    let n = if lent < 4096 { lent } else { 4096 };
-    let mut out = [0u8; 32768];
-    let k = respond(text, &mut room[..n], &mut out);
-    put_number(k);
-    put(&out[..k]);
+// The first n bytes are written, which are there.
+fn put_first(bytes: &[u8], n: usize) {
+    if n <= bytes.len() {
+        put(&bytes[..n]);
+    }
+}
+
+// The first n bytes are read, which are there.
+fn fill_first(bytes: &mut [u8], n: usize) {
+    if n <= bytes.len() {
+        io::read_full(STDIN_FILENO, &mut bytes[..n]);
+    }
+}
+
+// What bench prints for the text, where the first n bytes of the room are lent, which are there.
+fn answer(text: &[u8], room: &mut [u8], n: usize) {
+    if n <= room.len() {
+        let mut out = [0u8; 32768];
+        let k = respond(text, &mut room[..n], &mut out);
+        put_number(k);
+        put(&out[..k]);
+    }
+}
+
+// The question is written into the first n bytes of the buffer, which are there.
+fn write_first(q: Question, buffer: &mut [u8], n: usize) -> Wrote {
+    if n <= buffer.len() {
+        return write(q, &mut buffer[..n]);
+    }
+    Wrote::Length(0)
 }
 
 // The question written into a buffer of at most 4,096 bytes, each of which was 170.
-fn write_again(q: Question, lent: usize) {
+fn write_again(q: Question, n: usize) {
     let mut buffer = [170u8; 4096];
-    let n = if lent < 4096 { lent } else { 4096 };
-    let r = write(q, &mut buffer[..n]);
+    let r = write_first(q, &mut buffer, n);
     match r {
         Wrote::Length(_) => {
-            put_number(1 + n);
+            put_number(capped(n, 4096) + 1);
             put(b"W");
         }
         Wrote::Refused(x) => {
-            put_number(2 + n);
+            put_number(capped(n, 4096) + 2);
             let head = [82, x.number()];
             put(&head);
         }
     }
-    put(&buffer[..n]);
+    put_first(&buffer, n);
 }
 
 // Where the codes lead.
@@ -100,17 +133,17 @@ fn follow_codes(q: Question, codes: &[u8]) {
     }
 }
 
-// One request of this kind; the text and the codes are read here.
-fn respond_to(kind: u8) {
-    let lent = take_number();
-    let n = take_number();
-    let mut text = [0u8; 65536];
-    io::read_full(STDIN_FILENO, &mut text[..n]);
-    let m = take_number();
-    let mut codes = [0u8; 65536];
-    io::read_full(STDIN_FILENO, &mut codes[..m]);
+// A request of this kind, whose text and codes are the first n and m bytes, which are there.
+fn respond_to(kind: u8, lent: usize, text: &[u8], n: usize, codes: &[u8], m: usize) {
+    if text.len() < n {
+        return;
+    }
+    if codes.len() < m {
+        return;
+    }
     if kind == 113 {
-        answer(&text[..n], lent);
+        let mut room = [0u8; 4096];
+        answer(&text[..n], &mut room, lent);
         return;
     }
     let parsed = read(&text[..n]);
@@ -128,14 +161,29 @@ fn respond_to(kind: u8) {
     }
 }
 
+// One request, and whether there was one.
+fn take_request() -> bool {
+    let mut kind = [0u8; 1];
+    if io::read_full(STDIN_FILENO, &mut kind) == 0 {
+        return false;
+    }
+    let lent = capped(take_number(), 4096);
+    let n = take_number();
+    let mut text = [0u8; 65536];
+    fill_first(&mut text, n);
+    let m = take_number();
+    let mut codes = [0u8; 65536];
+    fill_first(&mut codes, m);
+    respond_to(kind[0], lent, &text, n, &codes, m);
+    true
+}
+
 fn main() {
     let mut i: usize = 0;
     while i < 500 {
-        let mut kind = [0u8; 1];
-        if io::read_full(STDIN_FILENO, &mut kind) == 0 {
+        if !take_request() {
             return;
         }
-        respond_to(kind[0]);
         i += 1;
     }
 }

@@ -1,53 +1,51 @@
+-- `answers::answer` ends, and reaches into no more than there is. Assumes nothing.
+use mathlib.Core.Path.{sym}
+use lib.Seq.{length-take-le}
 use borrow.Author.Needs.{needs}
 use Rattle.answers.proofs.answer.Statement.{statement}
 use Rattle.answers.proofs.answer.Tie as tie
-use Rattle.answers.proofs.answer.Reads as reads
-use Rattle.answers.proofs.answer.Lts as lts
-use Rattle.answers.proofs.put.Reads as put-reads
-use Rattle.answers.proofs.put_number.Reads as put-number-reads
-use Rattle.report.proofs.respond.Reads as respond-reads
 
--- src/main.rt:52:27
-array-borrow-prefix-room : tie.Need-array-borrow-prefix-room
-array-borrow-prefix-room c = ?
+slice-relend-prefix-respond : tie.Need-slice-relend-prefix-respond
+slice-relend-prefix-respond c = search needs
 
--- src/main.rt:52:27
 slice-aggregate-respond : tie.Need-slice-aggregate-respond
-slice-aggregate-respond c = ?
+slice-aggregate-respond c = sym (length-take-le _ _ (c .before .if1 .taken))
 
--- src/main.rt:52:9
 respond-requires : tie.Need-respond-requires
 respond-requires c κs = search needs
 
--- src/main.rt:53:5
 put-number-requires : tie.Need-put-number-requires
 put-number-requires c κs = search needs
 
--- src/main.rt:54:9
 array-share-prefix-out : tie.Need-array-share-prefix-out
-array-share-prefix-out c = ?
+array-share-prefix-out c = search needs
 
--- src/main.rt:54:9
 slice-aggregate-put : tie.Need-slice-aggregate-put
-slice-aggregate-put c = ?
+slice-aggregate-put c = sym (length-take-le _ _ (c .before .before .before .before .respond .ensures .1 .1 .1))
 
--- src/main.rt:54:5
 put-requires : tie.Need-put-requires
 put-requires c κs = search needs
 
--- src/main.rt:48:1
+same-length : tie.Need-same-length
+same-length c = search needs
+
 returns : tie.Need-returns
 returns c = search needs
+
+returns-2 : tie.Need-returns-2
+returns-2 c = search needs
 
 pub answer-spec : {M : Type 1} → statement M
 answer-spec =
     tie.close
     (tie.spec
-    array-borrow-prefix-room
+    slice-relend-prefix-respond
     slice-aggregate-respond
     respond-requires
     put-number-requires
     array-share-prefix-out
     slice-aggregate-put
     put-requires
-    returns)
+    same-length
+    returns
+    returns-2)

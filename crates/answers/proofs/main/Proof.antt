@@ -1,55 +1,35 @@
+-- `answers::main` ends: it takes 500 requests at most. Assumes nothing.
+use Prim.Native.Nat.{_-_, _≤_}
+use native.Mathlib.Omega.{arith}
 use Rattle.answers.proofs.main.Statement.{statement}
 use Rattle.answers.proofs.main.Tie as tie
-use Rattle.answers.proofs.main.Reads as reads
-use Rattle.answers.proofs.main.Lts as lts
-use Rattle.answers.proofs.respond_to.Reads as respond-to-reads
-use Rattle.io.proofs.read_full.Reads as read-full-reads
 
 abbrev Inv-loop : tie.InvT-loop
-Inv-loop i₀ i = ?
+Inv-loop i₀ i = i ≤ 500
 
 abbrev μ-loop : tie.MeasureT-loop
-μ-loop i₀ i = ?
+μ-loop i₀ i = 500 - i
 
--- src/main.rt:133:5
 loop-holds : tie.Need-loop-holds Inv-loop μ-loop
-loop-holds c = ?
+loop-holds c = omega arith
 
--- src/main.rt:135:40
-slice-aggregate-read-full : tie.Need-slice-aggregate-read-full Inv-loop μ-loop
-slice-aggregate-read-full c = ?
+take-request-requires : tie.Need-take-request-requires Inv-loop μ-loop
+take-request-requires c κs = tt
 
--- src/main.rt:135:12
-read-full-requires : tie.Need-read-full-requires Inv-loop μ-loop
-read-full-requires c κs = ?
-
--- src/main.rt:136:13
 returns : tie.Need-returns Inv-loop μ-loop
-returns c = ?
+returns c = tt
 
--- src/main.rt:138:20
-array-read-respond-to : tie.Need-array-read-respond-to Inv-loop μ-loop
-array-read-respond-to c = ?
-
--- src/main.rt:138:9
-respond-to-requires : tie.Need-respond-to-requires Inv-loop μ-loop
-respond-to-requires c κs = ?
-
--- src/main.rt:139:9
 add-i : tie.Need-add-i Inv-loop μ-loop
-add-i c = ?
+add-i c = omega (arith, c .before .before .loop-test .taken)
 
--- src/main.rt:133:5
 loop-less : tie.Need-loop-less Inv-loop μ-loop
-loop-less c = ?
+loop-less c = omega (arith, c .before .before .loop-test .taken)
 
--- src/main.rt:133:5
 loop-again : tie.Need-loop-again Inv-loop μ-loop
-loop-again c = ?
+loop-again c = omega (arith, c .before .before .loop-test .taken)
 
--- src/main.rt:131:1
 returns-2 : tie.Need-returns-2 Inv-loop μ-loop
-returns-2 c = ?
+returns-2 c = tt
 
 pub main-spec : {M : Type 1} → statement M
 main-spec =
@@ -58,11 +38,8 @@ main-spec =
     Inv-loop
     μ-loop
     loop-holds
-    slice-aggregate-read-full
-    read-full-requires
+    take-request-requires
     returns
-    array-read-respond-to
-    respond-to-requires
     add-i
     loop-less
     loop-again
