@@ -66,7 +66,8 @@ front : (n k : ℕ) (t : List ℕ) → k ≡ length t → take k (padded n 0 t) 
 unfolding padded
 front n k t e = ap (λ (m : ℕ). take m (t ++ replicate (n - length t) 0)) e ∙ take-append-seam t (replicate (n - length t) 0)
 
--- THEOREM: every question that code can hold and `write` accepts; k is what `write` answers, and the first k bytes of the buffer are read
+-- THEOREM: every question that code can hold (`types-held` shows that it holds no other) and `write` accepts, with Length k: the first k bytes
+-- of the buffer are read
 pub written-and-read :
     (q : Question) (o : List ℕ) (k : ℕ) → Held q → writing q (length o) ≡ Length k
     → Returns q (readOf (take k (leaves (writing q (length o)) (textIn q) o)))

@@ -1,6 +1,6 @@
 -- What follows for a question that code can hold once `write` accepts it: it is legal, and what it wants fits. Assumes nothing.
 use Prim.Native.Nat.{ℕ, zero, suc, _-_, _≤_}
-use mathlib.Core.Path.{_≡_, refl, sym, subst, _∙_}
+use mathlib.Core.Path.{_≡_, refl, _∙_}
 use mathlib.Core.Bool.{Bool, true, false}
 use mathlib.Core.List.{List, [], _∷_, _++_, map}
 use native.Mathlib.Omega.{arith}
@@ -12,12 +12,11 @@ use Rattle.names.specs.Names.{pick}
 use Rattle.tables.specs.Tables.{rows, padded}
 use Rattle.program.specs.declared.Op.{Op}
 use Rattle.program.specs.declared.Question.{Question}
-use Rattle.program.specs.Program.{Wanted, progOf, countsOf, mostOps, opIn, wantedOf}
+use Rattle.program.specs.Program.{progOf, countsOf, mostOps, opIn, wantedOf}
 use Rattle.program.specs.Program.Wanted.{all, one}
 use Rattle.program.specs.Legal.{legalAsked}
 use Rattle.words.specs.Want.{WantFits}
 use Rattle.px86.specs.declared.Refusal.the-variants.{Illegal, WrongWant, TooLong}
-use Rattle.write.specs.declared.Wrote.{Wrote}
 use Rattle.write.specs.declared.Wrote.the-variants.{Length, Refused}
 use Rattle.write.specs.Bytes.{BytesIn, OpsBytes, ThreadsBytes, Held}
 use Rattle.write.specs.Writing.{textIn, wantsRight, writing}

@@ -6,20 +6,23 @@ use Prim.Native.Nat.{ℕ, _-_}
 use borrow.Author.Needs.{needs}
 use borrow.Author.Tests.{not-true, not-false}
 use lib.ListN.{length, take, replicate, length-append}
-use Rattle.tables.proofs.Rows.{length-mapped}
 use Rattle.program.specs.Program.{progOf}
 use Rattle.program.specs.Kept.{Sized}
 use Rattle.number.specs.Put.{put}
 use Rattle.number.proofs.Put.{put-then}
+use Rattle.write.specs.Bytes.{Held}
 use Rattle.write.specs.Writing.{headText, threadsText, textIn}
+use Rattle.write.proofs.Types.{types-held}
 use Rattle.write.proofs.Pieces.{text-pieces, known-written, writes-illegal, writes-wrong, writes-long, writes-text}
-use borrow.Author.Needs.{needs}
 use Rattle.write.proofs.write.Statement.{statement}
 use Rattle.write.proofs.write.Tie as tie
 
--- the question's arrays are as long as their types say
+-- the question that is handed over is one that code can hold, so its arrays are as long as their types say
+held : (s : tie.Start) → Held (s .args .q)
+held s = types-held (s .args .q) _ (s .good .0)
+
 sized : (s : tie.Start) → Sized (s .args .q .program)
-sized s = search (needs, length-mapped)
+sized s = held s .sizes
 
 is-legal-asked-requires : tie.Need-is-legal-asked-requires
 is-legal-asked-requires c κs = search needs
