@@ -7,7 +7,7 @@ use native.Mathlib.Nat.{mul-comm, mul-div-cancel-left, sub-zero}
 use native.Mathlib.Omega.{arith}
 use borrow.Author.Tests.{leb-true, le-leb, lt-leb, eq-eqb, ne-eqb}
 use lib.Dec.{leb}
-use lib.ListN.{length, take, replicate, length-replicate}
+use lib.ListN.{length, take, replicate, getElem?, length-replicate}
 use Rattle.names.specs.Names.{mostRuns, isBudget, pick}
 use Rattle.names.specs.declared.Budget.{Budget}
 use Rattle.tables.specs.Tables.{padded}
@@ -15,11 +15,13 @@ use Rattle.program.specs.Program.{Prog, progOf, Wanted}
 use Rattle.program.specs.Program.Wanted.{all, one}
 use Rattle.program.specs.Legal.{legal, legalAsked}
 use Rattle.program.specs.declared.Program.{Program}
+use Rattle.program.specs.declared.Op.{Op}
 use Rattle.program.proofs.Legal.{kept}
+use Rattle.program.proofs.Threads.{thread-past}
 use Rattle.program.proofs.Tests.{both}
 use Rattle.px86.specs.declared.Refusal.{Refusal}
 use Rattle.px86.specs.declared.Refusal.the-variants.{Illegal, WrongWant, Over, TooLong, Barred, NoRoom}
-use Rattle.px86.specs.Machine.{start}
+use Rattle.px86.specs.Machine.{Machine, start}
 use Rattle.px86.specs.Runs.{Event, work}
 use Rattle.px86.specs.Ask.{ask, answered, within, events, eventsFrom, gather, seek, allOf, oneOf, Tally}
 use Rattle.px86.specs.Ask.Answer.{every, reached, never, none}
@@ -30,7 +32,8 @@ use Rattle.state.specs.State.{File, machineOf, noRegisters, Starts}
 use Rattle.state.specs.declared.State.{State}
 use Rattle.ask.specs.Asked.{answerOf, refusedIn, bufferOf, finished, Ends}
 use Rattle.walk.specs.Found.{Asks, Going, Reached, Holds, noted, want}
-use Rattle.walk.specs.Walk.{Walks, runs}
+use Rattle.walk.specs.Walk.{asked, Walks, runs}
+use Rattle.listing.specs.Listing.{progIn, Lists, Sound}
 use Rattle.ask.specs.declared.Answer.{Answer}
 use Rattle.ask.specs.declared.Answer.the-variants as answer
 use Rattle.walk.specs.declared.note.Asking.{Asking}
@@ -208,20 +211,35 @@ module _ (p : Program) (s : State) (g : File) (b : Starts s) (e : g ≡ noRegist
   begins : machineOf s g ≡ start
   begins = ap (machineOf s) e ∙ b .stands
 
-  module _ (l : legal p ≡ true) where
-    pub start-walks : (q : Asking) → Asks q → p .locs ≡ q .locs → Walks p q s g
-    start-walks q ok k = record { legal = l; asks = ok; locs = k; state = b .valid; file = rw e square-none }
+  -- with a listing of the program, and a question on it
+  module _ (l : legal p ≡ true) (list : List ℕ) (q : Asking) (k : p .locs ≡ q .locs) (n : p .threads ≡ q .threads) (same : progIn list (p .threads) (p .locs) ≡ progOf p) where
+    asks-about : asked q list ≡ progOf p
+    asks-about = rw (← k, ← n) same
 
-    pub start-room : 0 + work (progOf p) (machineOf s g) ≤ 96
-    start-room = let m : work (progOf p) (machineOf s g) ≡ work (progOf p) start = ap (work (progOf p)) begins in omega (arith, work-start p l)
+    pub start-walks : Asks q → Lists list (progOf p) → Sound list → Walks list q s g
+    start-walks ok lists sound =
+        record {
+          few = omega (arith, n, kept p l .few-threads);
+          beyond = λ t j h u w. lists .is t j u w ∙ ap (λ (os : List Op). getElem? os j) (thread-past p t (omega arith)) ∙ refl;
+          sound = sound;
+          lists = rw asks-about lists;
+          asks = ok;
+          state = b .valid;
+          file = rw e square-none;
+        }
 
-  -- the runs that are visited are all
-  pub start-events : runs (progOf p) [] (machineOf s g) ≡ events (progOf p)
-  unfolding runs events eventsFrom start
-  start-events = ap (runs (progOf p) []) begins
+    pub start-room : 0 + work (asked q list) (machineOf s g) ≤ 96
+    start-room =
+        let m : work (asked q list) (machineOf s g) ≡ work (progOf p) start = rw asks-about (ap (work (progOf p)) begins) in
+        omega (arith, work-start p l)
+
+    -- the runs that are visited are all
+    pub start-events : (a : Tally) → foldl (noted (asked q list) q) a (runs (asked q list) [] (machineOf s g)) ≡ foldl (noted (progOf p) q) a (events (progOf p))
+    unfolding runs events eventsFrom start
+    start-events a = rw asks-about (ap (λ (m : Machine). foldl (noted (progOf p) q) a (runs (progOf p) [] m)) begins)
 
 -- a buffer of zeros holds nothing
-pub start-holds : (q : Asking) (o : List ℕ) (n : ℕ) → o ≡ replicate n 0 → Holds q (record { status = status.Going; count = 0; long = false; used = 0 }) o (going 0 [])
+pub start-holds : (q : Asking) (o : List ℕ) (n : ℕ) → o ≡ replicate n 0 → Holds q (record { used = 0; count = 0; status = status.Going; long = false }) o (going 0 [])
 unfolding flat Wide Rises
 start-holds q o n z =
     record {

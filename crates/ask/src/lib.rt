@@ -12,6 +12,7 @@ ghost use Rattle.px86.specs.Ask.{ask, Tally, events};
 ghost use Rattle.px86.specs.Ask.Tally.{going};
 ghost use Rattle.walk.specs.Found.{Asks, Holds, noted};
 ghost use Rattle.ask.specs.Asked.{answerOf, bufferOf, Ends};
+use listing::listed;
 use machine::registers::no_registers;
 use names::Budget;
 use program::Program;
@@ -19,10 +20,11 @@ use program::is_legal_asked;
 use px86::Refusal;
 use rows::clear;
 use state::State;
-use walk::cycle::visit;
+use walk::cycle::try_from;
 use walk::note::Asking;
 use walk::note::Status;
 use walk::note::Walked;
+use walk::note::note;
 
 // What a question is answered.
 pub enum Answer {
@@ -72,22 +74,40 @@ fn finish(q: Asking, w: Walked, out: &mut [u8]) -> Answer
     }
 }
 
-// All runs of the program are walked, from the start.
+// All runs of the program are walked, from the start: the empty run is noted, and then those that extend it.
 fn walked(p: Program, q: Asking, out: &mut [u8]) -> Walked
-    requires { ⌜ (legal p ≡ true) × Asks q × (p .locs ≡ q .locs) ⌝ }
+    requires { ⌜ (legal p ≡ true) × Asks q × (p .locs ≡ q .locs) × (p .threads ≡ q .threads) ⌝ }
     ensures { λ r. ⌜ Holds q r (now (out .exit)) (foldl (noted (progOf p) q) (going 0 []) (events (progOf p))) ⌝ }
 {
     clear(out);
     let mut path = [0u8; 96];
+    let list = listed(p);
     let s = State::start();
     let g = no_registers();
     let w = Walked {
-        status: Status::Going,
-        count: 0,
-        long: false,
         used: 0,
+        count: 0,
+        status: Status::Going,
+        long: false,
     };
-    visit(p, q, s, g, 0, w, &mut path, out)
+    let memory = s.memory;
+    let v = note(q, memory, w, &path, 0, out);
+    try_from(
+        &list,
+        q,
+        &s.queued,
+        &s.queues,
+        &s.buffered,
+        &s.buffers,
+        &s.places,
+        &s.memory,
+        g,
+        0,
+        0,
+        v,
+        &mut path,
+        out,
+    )
 }
 
 // The memories that some run leaves: how many runs and memories there are; and in the lent buffer the memories, smallest first, one byte for
@@ -103,6 +123,7 @@ pub fn ask_all(p: Program, b: Budget, out: &mut [u8]) -> Answer
         all: true,
         wanted: [0; 6],
         locs: p.locs,
+        threads: p.threads,
         budget: b.0,
     };
     let w = walked(p, q, out);
@@ -142,6 +163,7 @@ pub fn ask_one(p: Program, b: Budget, want: &[u8], out: &mut [u8]) -> Answer
         all: false,
         wanted,
         locs,
+        threads: p.threads,
         budget: b.0,
     };
     let w = walked(p, q, out);

@@ -19,7 +19,7 @@ use Rattle.machine.specs.Registers.{loadedOf}
 use Rattle.verdict.specs.Verdict.{verdictOf}
 use Rattle.verdict.proofs.Judging.{is-barred, is-full}
 use Rattle.machine.specs.Taken.{Takes}
-use Rattle.machine.specs.declared.step.Next.{Next}
+use Rattle.machine.specs.declared.registers.Load.{Load}
 use Rattle.verdict.specs.declared.Verdict.the-variants.{Barred, NoRoom}
 
 module _ (p : Prog) (cs : List ℕ) where
@@ -52,12 +52,12 @@ module _ (p : Prog) (cs : List ℕ) where
         (sym (follow-to (step p) i (machineOf s g) (getD cs i 0) (drop (suc i) cs) n e)
         ∙ ap (follow (step p) i (machineOf s g)) (sym (drop-cons cs i 0 there)) ∙ l .same)
 
-    pub steps : (n : Next) (h : File) → Takes here g n → h ≡ loadedOf g (n .load) → Left (n .state) h (i + 1)
-    steps n h t e =
+    pub steps : (n : Load) (u : State) (h : File) → Takes here g n u → h ≡ loadedOf g n → Left u h (i + 1)
+    steps n u h t e =
         record {
           valid = t .valid;
           within = omega arith;
-          same = goes-on (machineOf (n .state) h) (t .is ∙ ap (λ (k : File). to (machineOf (n .state) k)) (sym e));
+          same = goes-on (machineOf u h) (t .is ∙ ap (λ (k : File). to (machineOf u k)) (sym e));
         }
 
     pub stops : verdictOf here ≡ Barred → follow (step p) 0 start cs ≡ stopped i

@@ -3,6 +3,7 @@ ghost use mathlib.Core.Path.{_≡_};
 ghost use Rattle.px86.specs.Ask.{followed};
 ghost use Rattle.px86.specs.Ask.Told.{state, refused};
 ghost use Rattle.follow.specs.Follow.{reply};
+use listing::listed;
 use machine::registers::loaded;
 use machine::registers::no_registers;
 use machine::step::step;
@@ -39,12 +40,10 @@ fn nothing(x: Refusal) -> Followed
     }
 }
 
-// What the state s with the registers g returns.
-fn arrived(s: State, g: [[u8; 4]; 4]) -> Followed
-    ensures { λ r. ⌜ r ≡ reply (state (s .memory) g (s .places)) ⌝ }
+// What a state of this memory and these places returns, with the registers g.
+fn arrived(memory: [u8; 6], g: [[u8; 4]; 4], places: [u8; 4]) -> Followed
+    ensures { λ r. ⌜ r ≡ reply (state memory g places) ⌝ }
 {
-    let memory = s.memory;
-    let places = s.places;
     let flat = [
         g[0][0],
         g[0][1],
@@ -65,9 +64,9 @@ fn arrived(s: State, g: [[u8; 4]; 4]) -> Followed
     ];
     Followed {
         outcome: Outcome::After,
-        memory: memory,
+        memory,
         registers: flat,
-        places: places,
+        places,
     }
 }
 
@@ -79,20 +78,43 @@ pub fn follow(p: Program, codes: &[u8]) -> Followed
     if !is_legal(p) {
         return nothing(Refusal::Illegal);
     }
-    let mut s = State::start();
+    let list = listed(p);
+    let s = State::start();
+    let mut queued = s.queued;
+    let mut queues = s.queues;
+    let mut buffered = s.buffered;
+    let mut buffers = s.buffers;
+    let mut places = s.places;
+    let mut memory = s.memory;
     let mut g = no_registers();
     let mut i: usize = 0;
     while i < codes.len() {
         let c = codes[i];
-        let v = judge(p, s, c);
+        let v = judge(
+            &list,
+            &queued,
+            &queues,
+            &buffered,
+            &buffers,
+            &places,
+            &memory,
+            c,
+        );
         match v {
             Verdict::Allowed => {
-                let n = step(p, g, s, c);
-                let load = n.load;
-                let next = n.state;
+                let load = step(
+                    &list,
+                    g,
+                    &mut queued,
+                    &mut queues,
+                    &mut buffered,
+                    &mut buffers,
+                    &mut places,
+                    &mut memory,
+                    c,
+                );
                 let registers = loaded(g, load);
                 g = registers;
-                s = next;
             }
             Verdict::Barred => {
                 return nothing(Refusal::Barred(i));
@@ -103,5 +125,5 @@ pub fn follow(p: Program, codes: &[u8]) -> Followed
         }
         i += 1;
     }
-    arrived(s, g)
+    arrived(memory, g, places)
 }

@@ -1,22 +1,21 @@
 -- What is written on a line is read again, and only what is written so is read. Assumes nothing.
-use mathlib.Core.Path.{_≡_, refl, sym, _∙_, ap}
+use mathlib.Core.Path.{_≡_, refl, _∙_, ap}
 use mathlib.Core.Bool.{Bool, true, false}
 use mathlib.Core.List.{List, [], _∷_, _++_}
-use Prim.Native.Nat.{ℕ, zero, suc, _+_, _≤_, _<_}
+use Prim.Native.Nat.{ℕ, _≤_, _<_}
 use native.Mathlib.Omega.{arith}
 use lib.Dec.{eqb, leb}
-use lib.ListN.{length, drop}
+use lib.ListN.{length, drop, length-append}
 use lib.Seq.{drop-append-seam}
-use borrow.Author.Tests.{eqb-true, eqb-false, eq-eqb, le-leb, lt-leb, leb-true, leb-false}
+use borrow.Author.Tests.{eqb-true, eq-eqb, le-leb, lt-leb, leb-true, leb-false}
 use Rattle.names.specs.Names.{pick}
 use Rattle.number.specs.Decimal.{decimal, Reading, misshapen, value, numberOf}
 use Rattle.number.proofs.Laws.{numberOf-decimal, numberOf-only}
-use Rattle.line.specs.declared.Field.{Field}
 use Rattle.line.specs.declared.Field.the-variants.{Shape, Limit, Fine}
 use Rattle.line.specs.Split.{begins, equal}
 use Rattle.number.specs.Capped.{capped, largest}
 use Rattle.number.specs.declared.Number.{Number}
-use Rattle.number.specs.declared.Number.the-variants.{Misshapen, Over, Value}
+use Rattle.number.specs.declared.Number.the-variants.{Value}
 use Rattle.line.specs.Line.{within, boundedOf, numberLine}
 
 -- what begins with a word is the word and the rest
@@ -35,6 +34,9 @@ pub begins-of : (w r : List ℕ) → begins w (w ++ r) ≡ true
 unfolding begins pick
 begins-of [] r = refl
 begins-of (a ∷ w) r = rw (eq-eqb a a refl) (begins-of w r)
+
+pub begins-fits : (w l : List ℕ) → begins w l ≡ true → length w ≤ length l
+begins-fits w l e = omega (arith, length-append w (drop (length w) l), ap length (begins-is w l e))
 
 -- texts that are the same
 pub equal-is : (w l : List ℕ) → equal w l ≡ true → w ≡ l

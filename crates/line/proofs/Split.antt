@@ -1,13 +1,12 @@
 -- The laws of a text in parts. Assumes nothing.
 use mathlib.Core.Path.{_≡_, refl, sym, _∙_, ap}
 use mathlib.Core.Bool.{Bool, true, false}
-use mathlib.Core.List.{List, [], _∷_, _++_}
-use Prim.Native.Nat.{ℕ, zero, suc, _+_, _-_, _≤_, _<_}
+use mathlib.Core.List.{List, [], _∷_}
+use Prim.Native.Nat.{ℕ, suc, _+_, _-_, _≤_, _<_}
 use native.Mathlib.Omega.{arith}
 use lib.Dec.{eqb}
-use lib.ListN.{length, take, drop, getD, length-drop}
+use lib.ListN.{length, take, drop, length-drop}
 use lib.Seq.{drop-drop, take-all}
-use borrow.Author.Tests.{eqb-true}
 use Rattle.names.specs.Names.{pick}
 use Rattle.line.specs.Split.{onFirst, split, later, before}
 
@@ -56,6 +55,10 @@ split-last b (c ∷ l) h = go (eqb c b) refl (split-last b l) h
         → split b (c ∷ l) ≡ (c ∷ l) ∷ []
     go true e ih h = absurd (omega arith)
     go false e ih h = rw e (ap (onFirst c) (ih (omega arith)))
+
+-- a part from k on is what is left behind k places
+pub part-behind : (k : ℕ) (s : List ℕ) → take (length s - k) (drop k s) ≡ drop k s
+part-behind k s = take-all (length s - k) (drop k s) (omega (arith, length-drop k s))
 
 -- the same at places of a slice, as a loop meets them: e is the place of the first separator at or behind a
 module _ (b : ℕ) (s : List ℕ) (a e : ℕ) (within : a ≤ length s) (found : e ≡ a + length (before b (drop a s))) where

@@ -1,5 +1,5 @@
 -- One turn of the loops that look for a byte and that compare with a word. Assumes nothing.
-use mathlib.Core.Path.{_≡_, refl, sym, _∙_, ap}
+use mathlib.Core.Path.{_≡_, refl}
 use mathlib.Core.Bool.{Bool, true, false}
 use mathlib.Core.List.{List, [], _∷_}
 use Prim.Native.Nat.{ℕ, suc, _+_, _≤_, _<_}
@@ -60,13 +60,3 @@ equal-begins [] [] h = refl
 equal-begins [] (c ∷ l) h = absurd (omega arith)
 equal-begins (a ∷ w) [] h = refl
 equal-begins (a ∷ w) (c ∷ l) h = rw (equal-begins w l (omega arith))
-
-pub begins-long : (w s : List ℕ) → length s < length w → begins w s ≡ false
-unfolding begins pick
-begins-long [] s h = absurd (omega arith)
-begins-long (a ∷ w) [] h = refl
-begins-long (a ∷ w) (c ∷ l) h = rw (begins-long w l (omega arith)) (same (eqb a c))
-  where
-    same : (t : Bool) → pick t false false ≡ false
-    same true = refl
-    same false = refl

@@ -1,7 +1,7 @@
 -- The numbers of a line between its commas, each in a range of its own. Assumes nothing: these are definitions.
 use mathlib.Core.Path.{_≡_}
 use mathlib.Core.List.{List, [], _∷_, _++_}
-use Prim.Native.Nat.{ℕ, zero, suc, _+_, _≤_}
+use Prim.Native.Nat.{ℕ, zero, suc, _≤_}
 use lib.ListN.{length, getD, replicate}
 use Rattle.tables.specs.Tables.{padded}
 use Rattle.number.specs.Decimal.{numberOf}

@@ -93,11 +93,8 @@ pub fn number_line(w: &[u8], lo: u32, hi: u32, s: &[u8]) -> Field
     requires { ⌜ hi ≤ largest ⌝ }
     ensures { λ r. ⌜ r ≡ numberLine (now (w .entry)) lo hi (now (s .entry)) ⌝ }
 {
-    let a = w.len();
-    if s.len() < a {
-        return Field::Shape;
-    }
     if starts(w, s) {
+        let a = w.len();
         return number_in(&s[a..], lo, hi);
     }
     Field::Shape

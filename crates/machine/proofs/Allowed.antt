@@ -8,8 +8,8 @@ use native.Mathlib.Decide.{decLt}
 use native.Mathlib.Numerals.{add-one}
 use native.Mathlib.Omega.{arith}
 use borrow.Author.Tests.{ltb-true, lt-ltb, eq-eqb, ne-eqb}
-use lib.Dec.{ltb}
-use lib.ListN.{length, take, getElem?}
+use lib.Dec.{ltb, eqb}
+use lib.ListN.{length, getD, set, take, getElem?}
 use Rattle.names.specs.declared.Loc.{Loc}
 use Rattle.names.specs.declared.Reg.{Reg}
 use Rattle.names.specs.Names.{pick}
@@ -17,15 +17,13 @@ use Rattle.tables.specs.Tables.{without}
 use Rattle.tables.proofs.Found.{found-past}
 use Rattle.program.specs.Program.{Prog}
 use Rattle.program.specs.declared.Op.{Op}
-use Rattle.program.specs.declared.Op.the-variants.{Cas, Faa, Mf}
-use Rattle.px86.specs.Machine.{Entry, Mark, Machine, line, place, buffer, queue, moved, wrote, buffered, queued}
+use Rattle.program.specs.declared.Op.the-variants.{Ld, Cas, Faa, Mf, Bz}
+use Rattle.px86.specs.Machine.{Entry, Mark, Machine, line, place, register, buffer, queue, moved, wrote, buffered, queued}
 use Rattle.px86.specs.Machine.Entry.{fence, flush}
 use Rattle.px86.specs.Machine.Mark.{write, opt}
 use Rattle.px86.specs.Step.{Stepped, when, fits, either, empty, reads, allClear, fenced, join, enqueue, locked, does, next, mayLeave, goes, leaves, persists}
 use Rattle.px86.specs.Step.Stepped.{to, barred}
-use Rattle.state.specs.State.{markOf, queueIn, machineOf, Is}
-use Rattle.state.specs.declared.State.{State}
-use Rattle.state.specs.State.{File}
+use Rattle.state.specs.State.{File, machineWith}
 use Rattle.verdict.specs.Verdict.{verdictOf}
 use Rattle.verdict.specs.declared.Verdict.the-variants.{Allowed}
 
@@ -74,11 +72,13 @@ module _ (m : Machine) (n : ℕ) (k : Mark) where
   unfolding enqueue
   enqueue-is = room-is (length (queue m n)) 32 (to (queued m n (queue m n ++ k ∷ [])))
 
--- the state after the push of a slot stands for the machine that the slot's entry joined
-pub pushed :
-    (s r : State) (l x : ℕ) (k : Mark) → length (queueIn s l) < 32 → markOf x ≡ k → Is (λ g. queued (machineOf s g) l (queueIn s l ++ markOf x ∷ [])) r
-    → (g : File) → enqueue (machineOf s g) l k ≡ to (machineOf r g)
-pushed s r l x k room mark is g = enqueue-is (machineOf s g) l k room ∙ ap to (sym (rw mark at (is .stands g)))
+-- the machine that a buffer's entry, or a queue's, joined, where that is what the tables hold then
+module _ (bs : List (List Entry)) (vs ns : List ℕ) (g : File) where
+  pub pushed :
+      (qs new : List (List Mark)) (l : ℕ) (k : Mark) → length (getD qs l []) < 32 → new ≡ set qs l (getD qs l [] ++ k ∷ [])
+      → enqueue (machineWith qs bs vs ns g) l k ≡ to (machineWith new bs vs ns g)
+  unfolding queued
+  pushed qs new l k room are = enqueue-is (machineWith qs bs vs ns g) l k room ∙ rw are
 
 -- a locked write of n, where v is what is read, and where it is allowed: it only joins the queue and loads v, and finds room there
 module _ (p : Prog) (m : Machine) (t r l v n : ℕ) (read : v ≡ reads p m t l) (h : verdictOf (locked p m t r l n) ≡ Allowed) where
@@ -90,8 +90,12 @@ module _ (p : Prog) (m : Machine) (t r l v n : ℕ) (read : v ≡ reads p m t l)
   unfolding wrote
   locked-room = enqueue-room (wrote m t r v) l (write l n) (ap verdictOf (sym locked-is) ∙ h)
 
--- where v is what is read: a compare and swap is a locked write or a load, and a fetch and add a locked write
+-- where v is what is read: a load loads it, a compare and swap is a locked write or a load, and a fetch and add a locked write
 module _ (p : Prog) (m : Machine) (t : ℕ) (r : Reg) (l : Loc) (v : ℕ) (read : v ≡ reads p m t (l .0)) where
+  pub ld-loads : does p join m t (Ld r l) ≡ to (wrote m t (r .0) v)
+  unfolding does
+  ld-loads = rw (← read)
+
   pub cas-locks : (e n : ℕ) → v ≡ e → does p join m t (Cas r l e n) ≡ locked p m t (r .0) (l .0) n
   unfolding does either
   cas-locks e n same = rw (eq-eqb (reads p m t (l .0)) e (sym read ∙ same))
@@ -100,16 +104,22 @@ module _ (p : Prog) (m : Machine) (t : ℕ) (r : Reg) (l : Loc) (v : ℕ) (read 
   unfolding does either
   cas-loads e n other = rw (ne-eqb (reads p m t (l .0)) e (λ same. other (read ∙ same)), ← read)
 
-  pub faa-locks : (a : ℕ) → does p join m t (Faa r l a) ≡ locked p m t (r .0) (l .0) ((v + a) % 256)
+  pub faa-locks : (a n : ℕ) → n ≡ (v + a) % 256 → does p join m t (Faa r l a) ≡ locked p m t (r .0) (l .0) n
   unfolding does
-  faa-locks a = rw (← read)
+  faa-locks a n sum = rw (← read, sum)
 
 -- an mf that is done changes nothing but the place
 pub mf-is : (p : Prog) (m : Machine) (t : ℕ) → verdictOf (does p join m t Mf) ≡ Allowed → does p join m t Mf ≡ to m
 unfolding does
 mf-is p m t = when-is (fenced m t) (to m)
 
--- a bz passes over no more than it names
+-- a bz moves on by j where v is what its register holds, and passes over no more than it names
+pub bz-moves :
+    (p : Prog) (m : Machine) (t : ℕ) (r : Reg) (k v j : ℕ) → v ≡ register m t (r .0) → j ≡ pick (eqb v 0) k 0
+    → does p join m t (Bz r k) ≡ to (moved m t (place m t + j))
+unfolding does
+bz-moves p m t r k v j holds over = rw (over, holds)
+
 pub at-most : (b : Bool) (k : ℕ) → pick b k 0 ≤ k
 unfolding pick
 at-most true k = omega arith

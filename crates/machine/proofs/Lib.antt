@@ -1,5 +1,7 @@
 -- Laws that the proofs of this crate cite.
 pub mod Allowed
-pub mod Moving
 pub mod Codes
+pub mod Moving
+pub mod Going
+pub mod Taking
 pub mod Unique

@@ -1,51 +1,45 @@
-// The step that an allowed code takes.
+// The step that an allowed code takes, in the place of the state.
 ghost use mathlib.Core.Path.{_≡_};
-ghost use mathlib.Core.Bool.{true};
-ghost use Prim.Native.Nat.{_+_, _-_, _%_, _<_};
+ghost use mathlib.Core.List.{List, [], _∷_, _++_};
+ghost use Prim.Native.Nat.{ℕ, _+_, _-_, _%_, _<_};
 ghost use lib.Dec.{eqb};
-ghost use lib.ListN.{length, getD, getElem?};
-ghost use Rattle.names.specs.Names.{threads, locations, registers, pick};
-ghost use Rattle.program.specs.Program.{Prog, progOf, mostOps};
-ghost use Rattle.program.specs.Legal.{legal};
+ghost use lib.ListN.{length, getD, set, getElem?};
+ghost use Rattle.names.specs.Names.{threads, locations, pick};
+ghost use Rattle.program.specs.Program.{Prog, mostOps};
 ghost use Rattle.program.specs.Kept.{Fits};
-ghost use Rattle.px86.specs.Machine.{wrote};
+ghost use Rattle.px86.specs.Machine.{Entry as PxEntry};
 ghost use Rattle.px86.specs.Machine.Mark.{write};
-ghost use Rattle.px86.specs.Step.{bufferRoom, queueRoom, join, enqueue, does, next, goes, leaves, persists, step as stepOf};
+ghost use Rattle.px86.specs.Step.{bufferRoom, queueRoom, join as joins, does, next, goes, leaves, persists, step as stepOf};
 ghost use Rattle.px86.specs.Step.Stepped.{to};
-ghost use Rattle.state.specs.State.{machineOf, entryOf, queueIn, bufferIn, EntryIn, Valid};
-ghost use Rattle.state.specs.State.{File};
+ghost use Rattle.listing.specs.Listing.{Lists, Sound};
+ghost use Rattle.state.specs.State.{entryOf, queuesOf, queueOf, buffersOf, bufferOf, Queues, Buffers, QueuesAre, BuffersAre, EntryIn, File, machineWith, machineOf, held, Valid};
 ghost use Rattle.verdict.specs.Verdict.{verdictOf, instruction};
-ghost use Rattle.machine.specs.Taken.{Takes, Comes};
+ghost use Rattle.machine.specs.Taken.{Takes};
 use crate::registers::Load;
 use crate::registers::register_of;
+use listing::fetch;
 use names::Loc;
 use names::Reg;
 use names::Thread;
 use program::Fetched;
 use program::Op;
-use program::Program;
-use program::op_at;
 use state::Entry;
 use state::State;
 use state::advance;
 use state::buffer_push;
 use state::buffer_remove;
+use state::entry_of;
 use state::fo_slot;
 use state::queue_pop;
 use state::queue_push;
 use state::set_memory;
+use state::slot_of;
 use state::write_slot;
 use verdict::LEAVE;
 use verdict::LEAVE_END;
 use verdict::PERSIST;
 use verdict::Verdict;
 use verdict::reads::read;
-
-// The state after a step, and what the step loads.
-pub struct Next {
-    pub state: State,
-    pub load: Load,
-}
 
 // The sum of two bytes modulo 256.
 fn sum(a: u8, b: u8) -> u8
@@ -62,200 +56,223 @@ fn skip(v: u8, k: u8) -> u8
 }
 
 // The entry e joins the buffer of t.
-fn joined(s: State, t: Thread, e: Entry) -> Next
-    requires { ⌜ Valid s ⌝ }
-    requires { ⌜ (t .0 < threads) × (length (bufferIn s (t .0)) < bufferRoom) × EntryIn e ⌝ }
-    ensures { λ r. ⌜ ((g : File) → Takes (join (machineOf s g) (t .0) (entryOf e)) g r) ⌝ }
+fn join(buffered: &mut [u16; 32], buffers: &mut [u8; 4], t: Thread, e: Entry) -> Load
+    requires { ⌜ Buffers (now buffered) (now buffers) ⌝ }
+    requires { ⌜ (t .0 < threads) × (length (bufferOf (now buffered) (now buffers) (t .0)) < bufferRoom) × EntryIn e ⌝ }
+    ensures { λ r. ⌜ r ≡ Load.Nothing ⌝ }
+    ensures { λ _. ⌜ BuffersAre (now (buffered .exit)) (now (buffers .exit)) (set (buffersOf (now (buffered .entry)) (now (buffers .entry))) (t .0) (bufferOf (now (buffered .entry)) (now (buffers .entry)) (t .0) ++ entryOf e ∷ [])) ⌝ }
 {
-    let u = buffer_push(s, t, e);
-    Next {
-        state: u,
-        load: Load::Nothing,
-    }
+    buffer_push(buffered, buffers, t, slot_of(e));
+    Load::Nothing
 }
 
 // A locked write of `new` to l by t, whose register r gets `old`.
-fn lock(s: State, t: Thread, r: Reg, l: Loc, old: u8, new: u8) -> Next
-    requires { ⌜ Valid s ⌝ }
-    requires { ⌜ (t .0 < threads) × (r .0 < registers) × (l .0 < locations) × (length (queueIn s (l .0)) < queueRoom) ⌝ }
-    ensures { λ x. ⌜ ((g : File) → Takes (enqueue (wrote (machineOf s g) (t .0) (r .0) old) (l .0) (write (l .0) new)) g x) ⌝ }
+fn lock(
+    queued: &mut [u16; 192],
+    queues: &mut [u8; 6],
+    t: Thread,
+    r: Reg,
+    l: Loc,
+    old: u8,
+    new: u8,
+) -> Load
+    requires { ⌜ Queues (now queued) (now queues) ⌝ }
+    requires { ⌜ (l .0 < locations) × (length (queueOf (now queued) (now queues) (l .0)) < queueRoom) ⌝ }
+    ensures { λ x. ⌜ x ≡ Load.Into t r old ⌝ }
+    ensures { λ _. ⌜ QueuesAre (now (queued .exit)) (now (queues .exit)) (set (queuesOf (now (queued .entry)) (now (queues .entry))) (l .0) (queueOf (now (queued .entry)) (now (queues .entry)) (l .0) ++ write (l .0) new ∷ [])) ⌝ }
 {
-    let e = write_slot(l, new);
-    let u = queue_push(s, l, e);
-    Next {
-        state: u,
-        load: Load::Into(t, r, old),
-    }
-}
-
-// Register r of t gets v, and nothing else changes.
-fn load(s: State, t: Thread, r: Reg, v: u8) -> Next
-    requires { ⌜ Valid s ⌝ }
-    requires { ⌜ (t .0 < threads) × (r .0 < registers) ⌝ }
-    ensures { λ x. ⌜ ((g : File) → Takes (to (wrote (machineOf s g) (t .0) (r .0) v)) g x) ⌝ }
-{
-    Next {
-        state: s,
-        load: Load::Into(t, r, v),
-    }
-}
-
-// A step to the state u that loads nothing.
-fn reached(u: State) -> Next
-    requires { ⌜ Valid u ⌝ }
-    ensures { λ x. ⌜ ((g : File) → Takes (to (machineOf u g)) g x) ⌝ }
-{
-    Next {
-        state: u,
-        load: Load::Nothing,
-    }
-}
-
-// Compare and swap, where it is allowed.
-fn compare_swap(s: State, t: Thread, r: Reg, l: Loc, e: u8, n: u8) -> Next
-    requires { ⌜ Valid s ⌝ }
-    requires { ⌜ (t .0 < threads) × (r .0 < registers) × (l .0 < locations) ⌝ }
-    requires { ⌜ ((p : Prog) (g : File) → verdictOf (does p join (machineOf s g) (t .0) (Op.Cas r l e n)) ≡ Verdict.Allowed) ⌝ }
-    ensures { λ x. ⌜ ((p : Prog) (g : File) → Takes (does p join (machineOf s g) (t .0) (Op.Cas r l e n)) g x) ⌝ }
-{
-    let v = read(s, t, l);
-    if v == e {
-        lock(s, t, r, l, v, n)
-    } else {
-        load(s, t, r, v)
-    }
-}
-
-// Fetch and add, where it is allowed.
-fn fetch_add(s: State, t: Thread, r: Reg, l: Loc, a: u8) -> Next
-    requires { ⌜ Valid s ⌝ }
-    requires { ⌜ (t .0 < threads) × (r .0 < registers) × (l .0 < locations) ⌝ }
-    requires { ⌜ ((p : Prog) (g : File) → verdictOf (does p join (machineOf s g) (t .0) (Op.Faa r l a)) ≡ Verdict.Allowed) ⌝ }
-    ensures { λ x. ⌜ ((p : Prog) (g : File) → Takes (does p join (machineOf s g) (t .0) (Op.Faa r l a)) g x) ⌝ }
-{
-    let v = read(s, t, l);
-    let n = sum(v, a);
-    lock(s, t, r, l, v, n)
+    queue_push(queued, queues, l, write_slot(l, new));
+    Load::Into(t, r, old)
 }
 
 // Thread t, whose place is moved on already, does the instruction o, which is allowed.
-fn do_op(s: State, regs: [[u8; 4]; 4], t: Thread, o: Op) -> Next
-    requires { ⌜ Valid s ⌝ }
-    requires { ⌜ (t .0 < threads) × Fits locations mostOps (getD (s .places) (t .0) 0 - 1) o ⌝ }
-    requires { ⌜ ((p : Prog) (g : File) → verdictOf (does p join (machineOf s g) (t .0) o) ≡ Verdict.Allowed) ⌝ }
-    ensures { λ x. ⌜ ((p : Prog) → Takes (does p join (machineOf s regs) (t .0) o) regs x) ⌝ }
+fn do_op(
+    regs: [[u8; 4]; 4],
+    queued: &mut [u16; 192],
+    queues: &mut [u8; 6],
+    buffered: &mut [u16; 32],
+    buffers: &mut [u8; 4],
+    places: &mut [u8; 4],
+    memory: &[u8; 6],
+    t: Thread,
+    o: Op,
+) -> Load
+    requires { ⌜ Valid (held (now queued) (now queues) (now buffered) (now buffers) (now places) (now memory)) ⌝ }
+    requires { ⌜ (t .0 < threads) × Fits locations mostOps (getD (now places) (t .0) 0 - 1) o ⌝ }
+    requires { ⌜ ((p : Prog) (g : File) → verdictOf (does p joins (machineOf (held (now queued) (now queues) (now buffered) (now buffers) (now places) (now memory)) g) (t .0) o) ≡ Verdict.Allowed) ⌝ }
+    ensures { λ r. ⌜ ((p : Prog) → Takes (does p joins (machineOf (held (now (queued .entry)) (now (queues .entry)) (now (buffered .entry)) (now (buffers .entry)) (now (places .entry)) (now (memory .entry))) regs) (t .0) o) regs r (held (now (queued .exit)) (now (queues .exit)) (now (buffered .exit)) (now (buffers .exit)) (now (places .exit)) (now (memory .entry)))) ⌝ }
 {
     match o {
-        Op::St(l, v) => joined(s, t, Entry::Store(l, v)),
+        Op::St(l, v) => join(buffered, buffers, t, Entry::Store(l, v)),
         Op::Sr(l, r) => {
             let v = register_of(regs, t, r);
-            joined(s, t, Entry::Store(l, v))
+            join(buffered, buffers, t, Entry::Store(l, v))
         }
         Op::Ld(r, l) => {
-            let v = read(s, t, l);
-            load(s, t, r, v)
+            let v = read(queued, queues, buffered, buffers, memory, t, l);
+            Load::Into(t, r, v)
         }
-        Op::Cas(r, l, e, n) => compare_swap(s, t, r, l, e, n),
-        Op::Faa(r, l, a) => fetch_add(s, t, r, l, a),
-        Op::Mf => reached(s),
-        Op::Sf => joined(s, t, Entry::Fence),
-        Op::Fl(l) => joined(s, t, Entry::Flush(l)),
-        Op::Fo(l) => joined(s, t, Entry::FlushOpt(l)),
+        Op::Cas(r, l, e, n) => {
+            let v = read(queued, queues, buffered, buffers, memory, t, l);
+            if v == e {
+                lock(queued, queues, t, r, l, v, n)
+            } else {
+                Load::Into(t, r, v)
+            }
+        }
+        Op::Faa(r, l, a) => {
+            let v = read(queued, queues, buffered, buffers, memory, t, l);
+            let n = sum(v, a);
+            lock(queued, queues, t, r, l, v, n)
+        }
+        Op::Mf => Load::Nothing,
+        Op::Sf => join(buffered, buffers, t, Entry::Fence),
+        Op::Fl(l) => join(buffered, buffers, t, Entry::Flush(l)),
+        Op::Fo(l) => join(buffered, buffers, t, Entry::FlushOpt(l)),
         Op::Bz(r, k) => {
             let v = register_of(regs, t, r);
-            let u = advance(s, t, skip(v, k));
-            reached(u)
+            advance(places, t, skip(v, k));
+            Load::Nothing
         }
     }
 }
 
 // Codes 0 to 3: thread t does its next instruction, which is allowed.
-fn step_thread(p: Program, regs: [[u8; 4]; 4], s: State, t: Thread) -> Next
-    requires { ⌜ legal p ≡ true ⌝ }
-    requires { ⌜ Valid s ⌝ }
+fn step_thread(
+    list: &[u32; 36],
+    regs: [[u8; 4]; 4],
+    queued: &mut [u16; 192],
+    queues: &mut [u8; 6],
+    buffered: &mut [u16; 32],
+    buffers: &mut [u8; 4],
+    places: &mut [u8; 4],
+    memory: &[u8; 6],
+    t: Thread,
+) -> Load
+    requires { ⌜ Sound (now list) × Valid (held (now queued) (now queues) (now buffered) (now buffers) (now places) (now memory)) ⌝ }
     requires { ⌜ t .0 < threads ⌝ }
-    requires { ⌜ ((g : File) → verdictOf (next (progOf p) join (machineOf s g) (t .0) (instruction p s (t .0))) ≡ Verdict.Allowed) ⌝ }
-    ensures { λ x. ⌜ Takes (next (progOf p) join (machineOf s regs) (t .0) (instruction p s (t .0))) regs x ⌝ }
+    requires { ⌜ ((p : Prog) (g : File) → Lists (now list) p → verdictOf (next p joins (machineOf (held (now queued) (now queues) (now buffered) (now buffers) (now places) (now memory)) g) (t .0) (instruction p (t .0) (getD (now places) (t .0) 0))) ≡ Verdict.Allowed) ⌝ }
+    ensures { λ r. ⌜ ((p : Prog) → Lists (now (list .entry)) p → Takes (next p joins (machineOf (held (now (queued .entry)) (now (queues .entry)) (now (buffered .entry)) (now (buffers .entry)) (now (places .entry)) (now (memory .entry))) regs) (t .0) (instruction p (t .0) (getD (now (places .entry)) (t .0) 0))) regs r (held (now (queued .exit)) (now (queues .exit)) (now (buffered .exit)) (now (buffers .exit)) (now (places .exit)) (now (memory .entry)))) ⌝ }
 {
     let at = t.0 as usize;
-    let places = s.places;
-    let k = places[at];
-    let f = op_at(p, t, k);
+    let f = fetch(list, t, places[at]);
     match f {
         Fetched::Found(o) => {
-            let u = advance(s, t, 1);
-            do_op(u, regs, t, o)
+            advance(places, t, 1);
+            do_op(
+                regs,
+                queued,
+                queues,
+                buffered,
+                buffers,
+                places,
+                memory,
+                t,
+                o,
+            )
         }
-        Fetched::Past => reached(s),
+        Fetched::Past => Load::Nothing,
     }
 }
 
 // The entry e, which left the buffer of t, goes where it goes, which is allowed.
-fn gone(u: State, t: Thread, e: Entry) -> State
-    requires { ⌜ Valid u ⌝ }
+fn go(queued: &mut [u16; 192], queues: &mut [u8; 6], t: Thread, e: Entry)
+    requires { ⌜ Queues (now queued) (now queues) ⌝ }
     requires { ⌜ (t .0 < threads) × EntryIn e ⌝ }
-    requires { ⌜ ((p : Prog) (g : File) → verdictOf (goes p (machineOf u g) (t .0) (entryOf e)) ≡ Verdict.Allowed) ⌝ }
-    ensures { λ r. ⌜ ((p : Prog) → Comes (λ g. goes p (machineOf u g) (t .0) (entryOf e)) r) ⌝ }
+    requires { ⌜ ((p : Prog) (bs : List (List PxEntry)) (vs ns : List ℕ) (g : File) → verdictOf (goes p (machineWith (queuesOf (now queued) (now queues)) bs vs ns g) (t .0) (entryOf e)) ≡ Verdict.Allowed) ⌝ }
+    ensures { λ _. ⌜ Queues (now (queued .exit)) (now (queues .exit)) ⌝ }
+    ensures { λ _. ⌜ ((p : Prog) (bs : List (List PxEntry)) (vs ns : List ℕ) (g : File) → goes p (machineWith (queuesOf (now (queued .entry)) (now (queues .entry))) bs vs ns g) (t .0) (entryOf e) ≡ to (machineWith (queuesOf (now (queued .exit)) (now (queues .exit))) bs vs ns g)) ⌝ }
 {
     match e {
-        Entry::Fence => u,
+        Entry::Fence => {}
         Entry::Store(l, v) => {
-            let k = write_slot(l, v);
-            queue_push(u, l, k)
+            queue_push(queued, queues, l, write_slot(l, v));
         }
-        Entry::Flush(_) => u,
+        Entry::Flush(_) => {}
         Entry::FlushOpt(l) => {
-            let k = fo_slot(t);
-            queue_push(u, l, k)
+            queue_push(queued, queues, l, fo_slot(t));
         }
     }
 }
 
 // Codes 16+8t+i: the entry at place i leaves the buffer of t, which is allowed.
-fn leave(s: State, t: Thread, i: u8) -> State
-    requires { ⌜ Valid s ⌝ }
+fn leave(
+    queued: &mut [u16; 192],
+    queues: &mut [u8; 6],
+    buffered: &mut [u16; 32],
+    buffers: &mut [u8; 4],
+    t: Thread,
+    i: u8,
+)
+    requires { ⌜ Queues (now queued) (now queues) ⌝ }
+    requires { ⌜ Buffers (now buffered) (now buffers) ⌝ }
     requires { ⌜ t .0 < threads ⌝ }
-    requires { ⌜ ((p : Prog) (g : File) → verdictOf (leaves p (machineOf s g) (t .0) i (getElem? (bufferIn s (t .0)) i)) ≡ Verdict.Allowed) ⌝ }
-    ensures { λ r. ⌜ ((p : Prog) → Comes (λ g. leaves p (machineOf s g) (t .0) i (getElem? (bufferIn s (t .0)) i)) r) ⌝ }
+    requires { ⌜ ((p : Prog) (vs ns : List ℕ) (g : File) → verdictOf (leaves p (machineWith (queuesOf (now queued) (now queues)) (buffersOf (now buffered) (now buffers)) vs ns g) (t .0) i (getElem? (bufferOf (now buffered) (now buffers) (t .0)) i)) ≡ Verdict.Allowed) ⌝ }
+    ensures { λ _. ⌜ Queues (now (queued .exit)) (now (queues .exit)) × Buffers (now (buffered .exit)) (now (buffers .exit)) ⌝ }
+    ensures { λ _. ⌜ ((p : Prog) (vs ns : List ℕ) (g : File) → leaves p (machineWith (queuesOf (now (queued .entry)) (now (queues .entry))) (buffersOf (now (buffered .entry)) (now (buffers .entry))) vs ns g) (t .0) i (getElem? (bufferOf (now (buffered .entry)) (now (buffers .entry)) (t .0)) i) ≡ to (machineWith (queuesOf (now (queued .exit)) (now (queues .exit))) (buffersOf (now (buffered .exit)) (now (buffers .exit))) vs ns g)) ⌝ }
 {
     let at = t.0 as usize;
-    let buffered = s.buffered;
-    let x = buffered[at * State::BUFFER_ROOM + (i as usize)];
-    let e = x.entry;
-    let u = buffer_remove(s, t, i);
-    gone(u, t, e)
+    let e = entry_of(buffered[at * State::BUFFER_ROOM + (i as usize)]);
+    buffer_remove(buffered, buffers, t, i);
+    go(queued, queues, t, e);
 }
 
-// Codes 64+l: the oldest entry of the queue of l goes, if there is one.
-fn persist(s: State, l: Loc) -> State
-    requires { ⌜ Valid s ⌝ }
-    requires { ⌜ (l .0 < locations) × (0 < length (queueIn s (l .0))) ⌝ }
-    ensures { λ r. ⌜ Comes (λ g. persists (machineOf s g) (l .0) (queueIn s (l .0))) r ⌝ }
+// Codes 64+l: the oldest entry of the queue of l goes, which is allowed.
+fn persist(queued: &mut [u16; 192], queues: &mut [u8; 6], memory: &mut [u8; 6], l: Loc)
+    requires { ⌜ Queues (now queued) (now queues) ⌝ }
+    requires { ⌜ (l .0 < locations) × (0 < length (queueOf (now queued) (now queues) (l .0))) ⌝ }
+    ensures { λ _. ⌜ Queues (now (queued .exit)) (now (queues .exit)) ⌝ }
+    ensures { λ _. ⌜ length (now (memory .exit)) ≡ length (now (memory .entry)) ⌝ }
+    ensures { λ _. ⌜ ((bs : List (List PxEntry)) (ns : List ℕ) (g : File) → persists (machineWith (queuesOf (now (queued .entry)) (now (queues .entry))) bs (now (memory .entry)) ns g) (l .0) (queueOf (now (queued .entry)) (now (queues .entry)) (l .0)) ≡ to (machineWith (queuesOf (now (queued .exit)) (now (queues .exit))) bs (now (memory .exit)) ns g)) ⌝ }
 {
     let at = l.0 as usize;
-    let queued = s.queued;
     let e = queued[at * State::QUEUE_ROOM];
-    let u = queue_pop(s, l);
-    if State::FIRST_FO <= e {
-        return u;
+    queue_pop(queued, queues, l);
+    if e < State::FIRST_FO {
+        set_memory(memory, Loc((e / 256) as u8), (e % 256) as u8);
     }
-    set_memory(u, Loc((e / 256) as u8), (e % 256) as u8)
 }
 
-// The step of the code c, which is allowed.
-pub fn step(p: Program, regs: [[u8; 4]; 4], s: State, c: u8) -> Next
-    requires { ⌜ legal p ≡ true ⌝ }
-    requires { ⌜ Valid s ⌝ }
-    requires { ⌜ ((g : File) → verdictOf (stepOf (progOf p) (machineOf s g) c) ≡ Verdict.Allowed) ⌝ }
-    ensures { λ r. ⌜ Takes (stepOf (progOf p) (machineOf s regs) c) regs r ⌝ }
+// The step of the code c, which is allowed. The arrays hold the state after it, and what it loads is returned.
+pub fn step(
+    list: &[u32; 36],
+    regs: [[u8; 4]; 4],
+    queued: &mut [u16; 192],
+    queues: &mut [u8; 6],
+    buffered: &mut [u16; 32],
+    buffers: &mut [u8; 4],
+    places: &mut [u8; 4],
+    memory: &mut [u8; 6],
+    c: u8,
+) -> Load
+    requires { ⌜ Sound (now list) × Valid (held (now queued) (now queues) (now buffered) (now buffers) (now places) (now memory)) ⌝ }
+    requires { ⌜ ((p : Prog) (g : File) → Lists (now list) p → verdictOf (stepOf p (machineOf (held (now queued) (now queues) (now buffered) (now buffers) (now places) (now memory)) g) c) ≡ Verdict.Allowed) ⌝ }
+    ensures { λ r. ⌜ ((p : Prog) → Lists (now (list .entry)) p → Takes (stepOf p (machineOf (held (now (queued .entry)) (now (queues .entry)) (now (buffered .entry)) (now (buffers .entry)) (now (places .entry)) (now (memory .entry))) regs) c) regs r (held (now (queued .exit)) (now (queues .exit)) (now (buffered .exit)) (now (buffers .exit)) (now (places .exit)) (now (memory .exit)))) ⌝ }
 {
     if c < Thread::LIMIT {
-        return step_thread(p, regs, s, Thread(c));
+        return step_thread(
+            list,
+            regs,
+            queued,
+            queues,
+            buffered,
+            buffers,
+            places,
+            memory,
+            Thread(c),
+        );
     }
     if c < LEAVE_END {
-        let u = leave(s, Thread((c - LEAVE) / 8), (c - LEAVE) % 8);
-        return reached(u);
+        leave(
+            queued,
+            queues,
+            buffered,
+            buffers,
+            Thread((c - LEAVE) / 8),
+            (c - LEAVE) % 8,
+        );
+        return Load::Nothing;
     }
-    let v = persist(s, Loc(c - PERSIST));
-    reached(v)
+    persist(queued, queues, memory, Loc(c - PERSIST));
+    Load::Nothing
 }

@@ -1,14 +1,14 @@
 -- What is written is read again, and only what is written so is read.
-use mathlib.Core.Path.{_≡_, refl, sym, _∙_, ap, subst}
+use mathlib.Core.Path.{_≡_, refl, sym, _∙_, ap}
 use mathlib.Core.Bool.{Bool, true, false}
 use mathlib.Core.List.{List, [], _∷_, _++_, append-assoc, append-nil}
 use Prim.Native.Nat.{ℕ, zero, suc, _+_, _-_, _*_, _/_, _%_, _≤_, _<_}
 use native.Mathlib.Omega.{arith}
 use lib.Dec.{ltb, leb, eqb}
 use lib.ListN.{length, getD, length-append}
-use borrow.Author.Tests.{ltb-true, ltb-false, lt-ltb, le-ltb, le-leb, lt-leb, ne-eqb, eq-eqb, eqb-true, eqb-false, leb-true, leb-false}
+use borrow.Author.Tests.{ltb-true, ltb-false, lt-ltb, le-ltb, le-leb, lt-leb, ne-eqb, eq-eqb, eqb-false, leb-true}
 use Rattle.names.specs.Names.{pick}
-use Rattle.number.specs.Decimal.{digits, decimal, Reading, misshapen, value, isDigit, reading, numberOf}
+use Rattle.number.specs.Decimal.{digits, decimal, misshapen, value, isDigit, reading, numberOf}
 
 -- a byte is a digit, or it is not
 pub digit-yes : (c : ℕ) → 48 ≤ c → c ≤ 57 → isDigit c ≡ true

@@ -1,12 +1,12 @@
 -- The laws of a lent buffer that writers go by. Assumes nothing.
-use mathlib.Core.Path.{_≡_, refl, sym, _∙_, ap}
+use mathlib.Core.Path.{_≡_, sym, _∙_, ap}
 use mathlib.Core.List.{List, [], _∷_, _++_, append-assoc, append-nil}
 use Prim.Native.Nat.{ℕ, suc, _+_, _-_, _≤_, _<_}
 use native.Mathlib.Omega.{arith}
 use native.Mathlib.Nat.{add-zero}
 use native.Mathlib.Numerals.{add-one}
 use lib.ListN.{length, take, drop, getD, set, replicate, length-append, length-take, length-drop, length-set, length-replicate, take-append-drop, drop-of-length-le}
-use lib.Seq.{drop-cons, set-split, take-at, drop-at, drop-drop, length-take-le, drop-append-add, append-snoc}
+use lib.Seq.{drop-cons, set-split, take-at, drop-drop, length-take-le, drop-append-add, append-snoc}
 use Rattle.number.specs.Put.{put}
 
 pub put-one : (d : List ℕ) (at c : ℕ) → at < length d → set d at c ≡ put d at (c ∷ [])

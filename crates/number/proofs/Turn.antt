@@ -1,5 +1,5 @@
 -- One turn of the loop that reads digits. Assumes nothing.
-use mathlib.Core.Path.{_≡_, refl, sym, _∙_, ap}
+use mathlib.Core.Path.{_≡_, refl}
 use mathlib.Core.Bool.{Bool, true, false}
 use mathlib.Core.List.{List, [], _∷_}
 use Prim.Native.Nat.{ℕ, suc, _+_, _-_, _*_, _≤_, _<_}
@@ -9,7 +9,7 @@ use borrow.Author.Tests.{lt-leb}
 use lib.ListN.{length, getD, drop}
 use lib.Seq.{drop-cons}
 use Rattle.names.specs.Names.{pick}
-use Rattle.number.specs.Decimal.{Reading, misshapen, value, isDigit, reading}
+use Rattle.number.specs.Decimal.{misshapen, isDigit, reading}
 use Rattle.number.specs.Capped.{capped, largest}
 use Rattle.number.proofs.Laws.{digit-yes, digit-low, digit-high, reading-digit, reading-not}
 

@@ -2,11 +2,11 @@
 -- thread that is last. Assumes nothing.
 use Prim.Native.Nat.{ℕ, zero, suc, _+_, _-_, _*_, _<_, _≤_, zero-le}
 use mathlib.Core.Path.{_≡_, refl, ap, sym, _∙_}
-use mathlib.Core.List.{List, [], _∷_, _++_, map, map-append, append-assoc, append-nil}
+use mathlib.Core.List.{List, [], _∷_, _++_, map, map-append}
 use native.Mathlib.Numerals.{add-one}
 use native.Mathlib.Omega.{arith}
-use lib.ListN.{length, getD, take, drop, set, replicate, length-append, length-map, length-replicate, List·getD-map}
-use lib.Seq.{take-append-seam, take-nil, set-at, getD-at, append-snoc}
+use lib.ListN.{length, getD, take, drop, set, replicate, length-append, length-map, List·getD-map}
+use lib.Seq.{take-append-seam, set-at, getD-at, append-snoc}
 use Rattle.names.specs.Names.{threads}
 use Rattle.tables.specs.Tables.{rows, padded, packed, Below}
 use Rattle.tables.proofs.Packed.{lengths, map-set, rows-packed, padded-length}

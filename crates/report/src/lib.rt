@@ -83,6 +83,7 @@ pub fn respond(text: &[u8], room: &mut [u8], out: &mut [u8; 32768]) -> usize
     ensures answer { λ r. ⌜ r ≡ length (responseOf (lentOf (length (now (room .entry)))) (now (text .entry))) ⌝ }
     ensures printed { λ _. ⌜ now (out .exit) ≡ padded mostPrinted 0 (responseOf (lentOf (length (now (room .entry)))) (now (text .entry))) ⌝ }
     ensures cleared { λ _. ⌜ now (room .exit) ≡ replicate (length (now (room .entry))) 0 ⌝ }
+    ensures fits { λ r. ⌜ r ≤ length (now (out .exit)) ⌝ }
 {
     let n = respond_in(text, room, out);
     rows::clear(room);

@@ -1,7 +1,7 @@
 -- How long an op line and a want line can be. Assumes nothing.
 use mathlib.Core.Path.{_≡_, refl, sym, _∙_, ap}
-use mathlib.Core.List.{List, [], _∷_, _++_, map}
-use Prim.Native.Nat.{ℕ, zero, suc, _+_, _-_, _*_, _≤_, _<_}
+use mathlib.Core.List.{List, [], _∷_, map}
+use Prim.Native.Nat.{ℕ, zero, suc, _+_, _-_, _*_, _≤_}
 use native.Mathlib.Omega.{arith}
 use lib.ListN.{length, length-append, replicate}
 use Rattle.names.specs.Names.{locations}
@@ -18,7 +18,6 @@ use Rattle.line.proofs.Join.{join-commaed}
 use Rattle.words.specs.Words.{byte, rangeOf}
 use Rattle.words.specs.Op.{opText, Within}
 use Rattle.words.specs.Want.{wantKey, wantText, WantFits}
-use Rattle.words.proofs.Want.{want-count}
 use Rattle.spell.proofs.Pieces.{op-length}
 
 pub commaed-none : length (commaed []) ≡ 0
@@ -31,16 +30,16 @@ commaed-more v vs = ap suc (length-append (decimal v) (commaed vs))
 
 -- each operand by the digits that it can have
 module _ (a : ℕ) (b c d : ℕ) where
-  one-long : length (commaed (a ∷ [])) ≡ 1 + length (decimal a)
+  pub one-long : length (commaed (a ∷ [])) ≡ 1 + length (decimal a)
   one-long = omega (arith, commaed-more a [], commaed-none)
 
-  two-long : length (commaed (a ∷ b ∷ [])) ≡ 2 + length (decimal a) + length (decimal b)
+  pub two-long : length (commaed (a ∷ b ∷ [])) ≡ 2 + length (decimal a) + length (decimal b)
   two-long = omega (arith, commaed-more a (b ∷ []), commaed-more b [], commaed-none)
 
-  three-long : length (commaed (a ∷ b ∷ c ∷ [])) ≡ 3 + length (decimal a) + length (decimal b) + length (decimal c)
+  pub three-long : length (commaed (a ∷ b ∷ c ∷ [])) ≡ 3 + length (decimal a) + length (decimal b) + length (decimal c)
   three-long = omega (arith, commaed-more a (b ∷ c ∷ []), commaed-more b (c ∷ []), commaed-more c [], commaed-none)
 
-  four-long : length (commaed (a ∷ b ∷ c ∷ d ∷ [])) ≡ 4 + length (decimal a) + length (decimal b) + length (decimal c) + length (decimal d)
+  pub four-long : length (commaed (a ∷ b ∷ c ∷ d ∷ [])) ≡ 4 + length (decimal a) + length (decimal b) + length (decimal c) + length (decimal d)
   four-long =
       omega (arith, commaed-more a (b ∷ c ∷ d ∷ []), commaed-more b (c ∷ d ∷ []), commaed-more c (d ∷ []), commaed-more d [], commaed-none)
 

@@ -1,15 +1,14 @@
-// The state of the machine by value: store buffers and persist queues in flat tables, places and memory. The registers stand beside it.
+// The state of the machine: store buffers and persist queues in flat tables, places and memory. The registers stand beside it.
 ghost use mathlib.Core.Path.{_≡_};
 ghost use mathlib.Core.List.{_++_, _∷_, []};
-ghost use Prim.Native.Nat.{_+_, _-_, _<_, _≤_};
-ghost use lib.ListN.{length, getD};
+ghost use Prim.Native.Nat.{_+_, _<_, _≤_};
+ghost use lib.ListN.{length, getD, set};
 ghost use Rattle.names.specs.Names.{threads, locations};
 ghost use Rattle.tables.specs.Tables.{without, closed};
 ghost use Rattle.program.specs.Program.{mostOps};
-ghost use Rattle.px86.specs.Machine.{moved, buffered, queued, persisted};
 ghost use Rattle.px86.specs.Machine.Mark.{write, opt};
 ghost use Rattle.px86.specs.Step.{bufferRoom, queueRoom};
-ghost use Rattle.state.specs.State.{markOf, entryOf, machineOf, queueIn, bufferIn, EntryIn, Valid, Is, Starts, noSlot};
+ghost use Rattle.state.specs.State.{markOf, entryIn, entryOf, EntryIn, fenceSlot, queuesOf, queueOf, buffersOf, bufferOf, Queues, Buffers, QueuesAre, BuffersAre, Starts};
 use names::Loc;
 use names::Thread;
 
@@ -21,16 +20,12 @@ pub enum Entry {
     FlushOpt(Loc),
 }
 
-pub struct Slot {
-    pub entry: Entry,
-}
-
 // Each location owns 32 slots of `queued` and each thread 8 of `buffered`, oldest first; the counts say how many are in use, and every
-// slot behind a count is blank, so that equal machines are equal bytes.
+// slot behind a count is 0, so that equal machines are equal bytes.
 pub struct State {
     pub queued: [u16; 192],
     pub queues: [u8; 6],
-    pub buffered: [Slot; 32],
+    pub buffered: [u16; 32],
     pub buffers: [u8; 4],
     pub places: [u8; 4],
     pub memory: [u8; 6],
@@ -42,20 +37,22 @@ impl State {
 
     pub const BUFFER_ROOM: usize = 8;
 
-    // A queue's slot below this is a write: 256 for each location below its own, and the value. From here on it is an fo of a thread.
+    // A slot below this is a write: 256 for each location below its own, and the value. From here on a queue's slot is an fo of a thread.
     pub const FIRST_FO: u16 = 256 * (Loc::LIMIT as u16);
+
+    // A buffer's slot from FIRST_FO on is an fl of a location, from here on an fo of one, and from FENCE on an sf.
+    pub const FLUSH_OPT: u16 = State::FIRST_FO + (Loc::LIMIT as u16);
+
+    pub const FENCE: u16 = State::FLUSH_OPT + (Loc::LIMIT as u16);
 
     // Before the first step: nothing is buffered or queued, and all places and memory are 0.
     pub fn start() -> State
         ensures { λ r. ⌜ Starts r ⌝ }
     {
-        let blank = Slot {
-            entry: Entry::Fence,
-        };
         State {
             queued: [0; 192],
             queues: [0; 6],
-            buffered: [blank; 32],
+            buffered: [0; 32],
             buffers: [0; 4],
             places: [0; 4],
             memory: [0; 6],
@@ -63,29 +60,7 @@ impl State {
     }
 }
 
-// How many entries wait in the queue of l.
-pub fn queue_len(s: State, l: Loc) -> u8
-    requires { ⌜ Valid s ⌝ }
-    requires { ⌜ l .0 < locations ⌝ }
-    ensures { λ r. ⌜ r ≡ length (queueIn s (l .0)) ⌝ }
-{
-    let at = l.0 as usize;
-    let counts = s.queues;
-    counts[at]
-}
-
-// How many entries wait in the buffer of t.
-pub fn buffer_len(s: State, t: Thread) -> u8
-    requires { ⌜ Valid s ⌝ }
-    requires { ⌜ t .0 < threads ⌝ }
-    ensures { λ r. ⌜ r ≡ length (bufferIn s (t .0)) ⌝ }
-{
-    let at = t.0 as usize;
-    let counts = s.buffers;
-    counts[at]
-}
-
-// The slot of a write of v to l, and of an fo of t.
+// The slot of a write of v to l, in a queue or a buffer, and of an fo of t in a queue.
 pub fn write_slot(l: Loc, v: u8) -> u16
     requires { ⌜ l .0 < locations ⌝ }
     ensures { λ r. ⌜ markOf r ≡ write (l .0) v ⌝ }
@@ -100,72 +75,92 @@ pub fn fo_slot(t: Thread) -> u16
     State::FIRST_FO + (t.0 as u16)
 }
 
+// The buffer's slot of an entry, and the entry of a slot.
+pub fn slot_of(e: Entry) -> u16
+    requires { ⌜ EntryIn e ⌝ }
+    ensures { λ r. ⌜ entryIn r ≡ entryOf e ⌝ }
+    ensures { λ r. ⌜ r ≤ fenceSlot ⌝ }
+{
+    match e {
+        Entry::Fence => State::FENCE,
+        Entry::Store(l, v) => write_slot(l, v),
+        Entry::Flush(l) => State::FIRST_FO + (l.0 as u16),
+        Entry::FlushOpt(l) => State::FLUSH_OPT + (l.0 as u16),
+    }
+}
+
+pub fn entry_of(x: u16) -> Entry
+    ensures { λ r. ⌜ entryOf r ≡ entryIn x ⌝ }
+    ensures { λ r. ⌜ EntryIn r ⌝ }
+{
+    if x < State::FIRST_FO {
+        return Entry::Store(Loc((x / 256) as u8), (x % 256) as u8);
+    }
+    if x < State::FLUSH_OPT {
+        return Entry::Flush(Loc((x - State::FIRST_FO) as u8));
+    }
+    if x < State::FENCE {
+        return Entry::FlushOpt(Loc((x - State::FLUSH_OPT) as u8));
+    }
+    Entry::Fence
+}
+
 // The slot e joins the end of the queue of l.
-pub fn queue_push(s: State, l: Loc, e: u16) -> State
-    requires { ⌜ Valid s ⌝ }
-    requires { ⌜ (l .0 < locations) × (length (queueIn s (l .0)) < queueRoom) ⌝ }
-    ensures { λ r. ⌜ Is (λ g. queued (machineOf s g) (l .0) (queueIn s (l .0) ++ markOf e ∷ [])) r ⌝ }
+pub fn queue_push(queued: &mut [u16; 192], queues: &mut [u8; 6], l: Loc, e: u16)
+    requires { ⌜ Queues (now queued) (now queues) ⌝ }
+    requires { ⌜ (l .0 < locations) × (length (queueOf (now queued) (now queues) (l .0)) < queueRoom) ⌝ }
+    ensures { λ _. ⌜ QueuesAre (now (queued .exit)) (now (queues .exit)) (set (queuesOf (now (queued .entry)) (now (queues .entry))) (l .0) (queueOf (now (queued .entry)) (now (queues .entry)) (l .0) ++ markOf e ∷ [])) ⌝ }
 {
     let at = l.0 as usize;
-    let n = s.queues[at];
-    let mut u = s;
-    u.queued[at * State::QUEUE_ROOM + (n as usize)] = e;
-    u.queues[at] = n + 1;
-    u
+    let n = queues[at];
+    queued[at * State::QUEUE_ROOM + (n as usize)] = e;
+    queues[at] = n + 1;
 }
 
 // The `moves` entries behind the slot `from` move one slot down, and the last of their slots is blank then.
-fn close_queued(xs: [u16; 192], from: usize, moves: usize) -> [u16; 192]
+fn close_queued(queued: &mut [u16; 192], from: usize, moves: usize)
     requires { ⌜ from + moves < 192 ⌝ }
-    ensures { λ r. ⌜ r ≡ closed 0 xs from moves ⌝ }
+    ensures { λ _. ⌜ now (queued .exit) ≡ closed 0 (now (queued .entry)) from moves ⌝ }
 {
-    let mut ys = xs;
     let mut a = from;
     let mut left = moves;
     while 0 < left {
-        ys[a] = ys[a + 1];
+        queued[a] = queued[a + 1];
         a += 1;
         left -= 1;
     }
-    ys[a] = 0;
-    ys
+    queued[a] = 0;
 }
 
 // The oldest entry of the queue of l goes.
-pub fn queue_pop(s: State, l: Loc) -> State
-    requires { ⌜ Valid s ⌝ }
-    requires { ⌜ (l .0 < locations) × (0 < length (queueIn s (l .0))) ⌝ }
-    ensures { λ r. ⌜ Is (λ g. queued (machineOf s g) (l .0) (without 0 (queueIn s (l .0)))) r ⌝ }
+pub fn queue_pop(queued: &mut [u16; 192], queues: &mut [u8; 6], l: Loc)
+    requires { ⌜ Queues (now queued) (now queues) ⌝ }
+    requires { ⌜ (l .0 < locations) × (0 < length (queueOf (now queued) (now queues) (l .0))) ⌝ }
+    ensures { λ _. ⌜ QueuesAre (now (queued .exit)) (now (queues .exit)) (set (queuesOf (now (queued .entry)) (now (queues .entry))) (l .0) (without 0 (queueOf (now (queued .entry)) (now (queues .entry)) (l .0)))) ⌝ }
 {
     let at = l.0 as usize;
-    let n = s.queues[at];
-    let mut u = s;
-    let old = u.queued;
-    let new = close_queued(old, at * State::QUEUE_ROOM, (n - 1) as usize);
-    u.queued = new;
-    u.queues[at] = n - 1;
-    u
+    let n = queues[at];
+    close_queued(queued, at * State::QUEUE_ROOM, (n - 1) as usize);
+    queues[at] = n - 1;
 }
 
-// The entry e joins the end of the buffer of t.
-pub fn buffer_push(s: State, t: Thread, e: Entry) -> State
-    requires { ⌜ Valid s ⌝ }
-    requires { ⌜ (t .0 < threads) × (length (bufferIn s (t .0)) < bufferRoom) × EntryIn e ⌝ }
-    ensures { λ r. ⌜ Is (λ g. buffered (machineOf s g) (t .0) (bufferIn s (t .0) ++ entryOf e ∷ [])) r ⌝ }
+// The slot x joins the end of the buffer of t.
+pub fn buffer_push(buffered: &mut [u16; 32], buffers: &mut [u8; 4], t: Thread, x: u16)
+    requires { ⌜ Buffers (now buffered) (now buffers) ⌝ }
+    requires { ⌜ (t .0 < threads) × (length (bufferOf (now buffered) (now buffers) (t .0)) < bufferRoom) × (x ≤ fenceSlot) ⌝ }
+    ensures { λ _. ⌜ BuffersAre (now (buffered .exit)) (now (buffers .exit)) (set (buffersOf (now (buffered .entry)) (now (buffers .entry))) (t .0) (bufferOf (now (buffered .entry)) (now (buffers .entry)) (t .0) ++ entryIn x ∷ [])) ⌝ }
 {
     let at = t.0 as usize;
-    let n = s.buffers[at];
-    let mut u = s;
-    u.buffered[at * State::BUFFER_ROOM + (n as usize)] = Slot { entry: e };
-    u.buffers[at] = n + 1;
-    u
+    let n = buffers[at];
+    buffered[at * State::BUFFER_ROOM + (n as usize)] = x;
+    buffers[at] = n + 1;
 }
 
 // A second table is built beside xs: the same but that the `moves` entries behind the slot `from` stand one slot lower, and the last of
 // their slots is blank.
-fn built_without(xs: [Slot; 32], from: usize, moves: usize) -> [Slot; 32]
+fn built_without(xs: [u16; 32], from: usize, moves: usize) -> [u16; 32]
     requires { ⌜ from + moves < 32 ⌝ }
-    ensures { λ r. ⌜ r ≡ closed noSlot xs from moves ⌝ }
+    ensures { λ r. ⌜ r ≡ closed 0 xs from moves ⌝ }
 {
     let mut ys = xs;
     let mut a = from;
@@ -175,53 +170,43 @@ fn built_without(xs: [Slot; 32], from: usize, moves: usize) -> [Slot; 32]
         a += 1;
         left -= 1;
     }
-    ys[a] = Slot {
-        entry: Entry::Fence,
-    };
+    ys[a] = 0;
     ys
 }
 
 // The entry at place i leaves the buffer of t.
-pub fn buffer_remove(s: State, t: Thread, i: u8) -> State
-    requires { ⌜ Valid s ⌝ }
-    requires { ⌜ (t .0 < threads) × (i < length (bufferIn s (t .0))) ⌝ }
-    ensures { λ r. ⌜ Is (λ g. buffered (machineOf s g) (t .0) (without i (bufferIn s (t .0)))) r ⌝ }
+pub fn buffer_remove(buffered: &mut [u16; 32], buffers: &mut [u8; 4], t: Thread, i: u8)
+    requires { ⌜ Buffers (now buffered) (now buffers) ⌝ }
+    requires { ⌜ (t .0 < threads) × (i < length (bufferOf (now buffered) (now buffers) (t .0))) ⌝ }
+    ensures { λ _. ⌜ BuffersAre (now (buffered .exit)) (now (buffers .exit)) (set (buffersOf (now (buffered .entry)) (now (buffers .entry))) (t .0) (without i (bufferOf (now (buffered .entry)) (now (buffers .entry)) (t .0)))) ⌝ }
 {
     let at = t.0 as usize;
-    let n = s.buffers[at];
-    let mut u = s;
-    let old = u.buffered;
+    let n = buffers[at];
+    let old = *buffered;
     let new = built_without(
         old,
         at * State::BUFFER_ROOM + (i as usize),
         (n - 1 - i) as usize,
     );
-    u.buffered = new;
-    u.buffers[at] = n - 1;
-    u
+    *buffered = new;
+    buffers[at] = n - 1;
 }
 
 // The place of t moves on by k.
-pub fn advance(s: State, t: Thread, k: u8) -> State
-    requires { ⌜ Valid s ⌝ }
-    requires { ⌜ (t .0 < threads) × (getD (s .places) (t .0) 0 + k ≤ mostOps) ⌝ }
-    ensures { λ r. ⌜ Is (λ g. moved (machineOf s g) (t .0) (getD (s .places) (t .0) 0 + k)) r ⌝ }
+pub fn advance(places: &mut [u8; 4], t: Thread, k: u8)
+    requires { ⌜ (t .0 < threads) × (getD (now places) (t .0) 0 + k ≤ mostOps) ⌝ }
+    ensures { λ _. ⌜ now (places .exit) ≡ set (now (places .entry)) (t .0) (getD (now (places .entry)) (t .0) 0 + k) ⌝ }
 {
     let at = t.0 as usize;
-    let mut u = s;
-    let p = u.places[at];
-    u.places[at] = p + k;
-    u
+    let p = places[at];
+    places[at] = p + k;
 }
 
 // The memory at l is v now.
-pub fn set_memory(s: State, l: Loc, v: u8) -> State
-    requires { ⌜ Valid s ⌝ }
+pub fn set_memory(memory: &mut [u8; 6], l: Loc, v: u8)
     requires { ⌜ l .0 < locations ⌝ }
-    ensures { λ r. ⌜ Is (λ g. persisted (machineOf s g) (l .0) v) r ⌝ }
+    ensures { λ _. ⌜ now (memory .exit) ≡ set (now (memory .entry)) (l .0) v ⌝ }
 {
     let at = l.0 as usize;
-    let mut u = s;
-    u.memory[at] = v;
-    u
+    memory[at] = v;
 }

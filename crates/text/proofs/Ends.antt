@@ -2,7 +2,6 @@
 use Prim.Native.Nat.{ℕ, _+_, _<_, _≤_}
 use mathlib.Core.Path.{_≡_, refl, ap, sym, _∙_}
 use mathlib.Core.Bool.{Bool, true, false}
-use mathlib.Core.Option.{Option, none, some}
 use mathlib.Core.List.{List, [], _∷_, _++_}
 use native.Mathlib.Omega.{arith}
 use borrow.Author.Tests.{lt-ltb, le-ltb, eq-eqb, ne-eqb}
@@ -25,7 +24,7 @@ use Rattle.words.specs.Op.{opKey, opLine}
 use Rattle.words.specs.Want.{WantLine, shape, limit, fine, wantLine}
 use Rattle.question.specs.declared.Jump.{Jump}
 use Rattle.question.specs.declared.Jump.the-variants.{Within, Past}
-use Rattle.question.specs.Question.{Asked, Short, holding, asking, programOf, questionOf}
+use Rattle.question.specs.Question.{Asked, Short, programOf, questionOf}
 use Rattle.question.specs.Past.{past, firstThread, jumpOf}
 use Rattle.question.proofs.Walk.{jump-past, jump-within}
 use Rattle.question.proofs.Made.{prog-back, holding-threads}
@@ -34,8 +33,8 @@ use Rattle.text.specs.declared.State.{State}
 use Rattle.text.specs.declared.Turn.{Turn}
 use Rattle.text.specs.declared.Parsed.{Parsed}
 use Rattle.text.specs.declared.Verdict.the-variants.{Accepted}
-use Rattle.text.specs.Read.{Head, So, nothing, threaded, located, budgeted, wanting, inside, Step, fault, next, step, onNumber, onWant, onOp, onTurn, threadLine, Outcome, refused, accepted, askedOf, onPast, end, onStep, readParts, threadsKey, locsKey, budgetKey, mostBytes, readText, parsedOf, readOf}
-use Rattle.text.specs.Packed.{packed, packedStep, headed, BodyFits, Settles}
+use Rattle.text.specs.Read.{Head, So, nothing, threaded, located, budgeted, wanting, inside, Step, fault, next, step, onNumber, onWant, onOp, onTurn, threadLine, refused, askedOf, onPast, end, onStep, readParts, threadsKey, locsKey, budgetKey, mostBytes, readText, parsedOf, readOf}
+use Rattle.text.specs.Packed.{packed, packedStep, BodyFits, Settles}
 use Rattle.text.proofs.Steps.{body-short, body-threads, body-done}
 
 -- a question that is whole, and the first bz past its thread's end

@@ -20,7 +20,7 @@ use Rattle.question.specs.Past.{leaps, pastIn, past}
 use Rattle.text.specs.Read.{step, readParts, readText, Outcome, refused, accepted, askedOf}
 
 -- a quoted text as bytes, of which each character is one
-abbrev bytes : String → List ℕ
+abbrev pub bytes : String → List ℕ
 bytes none = []
 bytes (c before s) = code c ∷ bytes s
 
@@ -45,6 +45,10 @@ full = begun ++ "op=mf\nop=mf\nop=mf\nop=mf\nop=mf\nop=mf\nop=mf\nop=mf\n"
 
 abbrev two : String
 two = "threads=2\nlocs=2\nbudget=50\nwant=all\nthread=0\n"
+
+-- document 01's worked example
+abbrev pub document : String
+document = begun ++ "op=st,0,42\nop=fl,0\nop=st,1,1\n"
 
 -- many characters: a hundred of them, and ten times so many
 abbrev hundred : String → String
@@ -219,7 +223,7 @@ abbrev asks : ℕ → ℕ → ℕ → Wanted → List (List Op) → Outcome
 asks t n b w oss = accepted (askedOf (record { threads = t; locs = n; budget = b; want = w }) oss)
 
 pub accepted-document :
-    readText (bytes (begun ++ "op=st,0,42\nop=fl,0\nop=st,1,1\n"))
+    readText (bytes document)
     ≡ asks 1 2 50 all ((St (record { 0 = 0 }) 42 ∷ Fl (record { 0 = 0 }) ∷ St (record { 0 = 1 }) 1 ∷ []) ∷ [])
 unfolding pick reading numberOf split begins equal within numberLine fieldsFrom named kindOf opParts opLine wantRest wantLine leaps pastIn past step readParts readText
 accepted-document = refl

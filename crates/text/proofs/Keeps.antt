@@ -1,6 +1,6 @@
 -- What a reading keeps: each line that is fine keeps its limits. Assumes nothing.
-use Prim.Native.Nat.{ℕ, _+_, _<_, _≤_}
-use mathlib.Core.Path.{_≡_, refl, ap, sym, subst, _∙_}
+use Prim.Native.Nat.{ℕ, _+_, _<_}
+use mathlib.Core.Path.{_≡_, refl, subst}
 use mathlib.Core.Bool.{Bool, true, false}
 use mathlib.Core.List.{List, [], _∷_, _++_}
 use native.Mathlib.Omega.{arith}
@@ -22,7 +22,7 @@ use Rattle.words.specs.Want.{WantLine, shape, limit, fine, wantLine}
 use Rattle.words.proofs.Op.{op-is}
 use Rattle.words.proofs.Want.{want-is}
 use Rattle.question.proofs.Lawful.{within-last, threads-last}
-use Rattle.text.specs.Read.{Head, So, nothing, threaded, located, budgeted, wanting, inside, Step, fault, next, step, onNumber, onWant, onOp, onTurn, threadsKey, locsKey, budgetKey, threadLine}
+use Rattle.text.specs.Read.{Head, So, nothing, threaded, located, budgeted, wanting, inside, fault, next, step, onNumber, onWant, onOp, onTurn, threadsKey, locsKey, budgetKey, threadLine}
 use Rattle.text.specs.Packed.{BodyFits, Valid}
 
 -- what a line that goes on was

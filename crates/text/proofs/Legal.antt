@@ -17,7 +17,7 @@ use Rattle.question.specs.Question.{Asked, ThreadsWithin, programOf, questionOf
 use Rattle.question.specs.Past.{past, firstThread}
 use Rattle.question.proofs.Lawful.{and-true, threads-last, threads-legal, made-legal}
 use Rattle.text.specs.Read.{Head, So, nothing, threaded, located, budgeted, wanting, inside, Step, fault, next, step, Outcome, refused, accepted, askedOf, onPast, end, onStep, readParts, mostBytes, readText}
-use Rattle.text.specs.Packed.{HeadFits, BodyFits, Valid}
+use Rattle.text.specs.Packed.{HeadFits, Valid}
 use Rattle.text.proofs.Keeps.{valid-step}
 
 -- a text that is accepted: what its head and its threads keep

@@ -6,13 +6,12 @@ use mathlib.Core.List.{List, [], _∷_, _++_}
 use native.Mathlib.Omega.{arith}
 use borrow.Author.Tests.{lt-ltb, le-ltb}
 use lib.ListN.{length, getD, length-append}
-use Rattle.names.specs.Names.{pick, threads, locations}
+use Rattle.names.specs.Names.{pick, threads}
 use Rattle.program.specs.declared.Op.{Op}
 use Rattle.program.specs.declared.Program.{Program}
 use Rattle.program.specs.declared.Question.{Question}
 use Rattle.program.specs.declared.Want.{Want}
 use Rattle.program.specs.Program.{Wanted, emptyProgram, withOp, mostOps}
-use Rattle.program.specs.Program.Wanted.{all}
 use Rattle.line.specs.Split.{begins}
 use Rattle.words.specs.declared.OpLine.{OpLine}
 use Rattle.words.specs.declared.OpLine.the-variants as op
@@ -26,7 +25,7 @@ use Rattle.question.proofs.Made.{holding-none, holding-open, holding-joined, ho
 use Rattle.text.specs.declared.State.{State}
 use Rattle.text.specs.declared.Turn.{Turn}
 use Rattle.text.specs.Read.{Head, So, nothing, threaded, located, budgeted, wanting, inside, fault, next, step, onWant, onOp, onTurn, threadLine}
-use Rattle.text.specs.Packed.{stateOf, headed, packed, packedStep, BodyFits}
+use Rattle.text.specs.Packed.{stateOf, packed, packedStep, BodyFits}
 
 -- a question with no thread yet
 pub asking-none :

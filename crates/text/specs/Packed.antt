@@ -6,7 +6,7 @@ use lib.ListN.{length}
 use Rattle.names.specs.Names.{threads, locations, mostRuns}
 use Rattle.program.specs.declared.Op.{Op}
 use Rattle.program.specs.declared.Question.{Question}
-use Rattle.program.specs.Program.{Wanted, mostOps}
+use Rattle.program.specs.Program.{mostOps}
 use Rattle.program.specs.Program.Wanted.{all}
 use Rattle.words.specs.Want.{WantFits}
 use Rattle.question.specs.Question.{Asked, Short, AllWithin, ThreadsWithin, asking, questionOf}

@@ -1,7 +1,6 @@
 -- READING THE TEXT: document 01, "The text" and refusals 1 to 5. The text is cut at its line feeds, and each line is judged by itself from what
 -- was read before it. Assumes nothing: these are definitions.
 use Prim.Native.Nat.{ℕ, _+_}
-use mathlib.Core.Bool.{Bool, true, false}
 use mathlib.Core.Option.{Option, none, some}
 use mathlib.Core.List.{List, [], _∷_, _++_}
 use lib.Dec.{ltb, eqb}

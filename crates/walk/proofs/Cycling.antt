@@ -5,31 +5,33 @@ use mathlib.Core.List.{List, [], _∷_, _++_, foldl}
 use Prim.Native.Nat.{ℕ, zero, suc, _+_, _<_, _≤_}
 use native.Mathlib.Numerals.{add-one}
 use native.Mathlib.Omega.{arith}
-use lib.ListN.{length, take, set}
+use lib.ListN.{length, take, drop, set}
 use lib.Seq.{take-suc-set, take-set-le}
-use Rattle.program.specs.Program.{progOf}
-use Rattle.program.specs.declared.Program.{Program}
+use Rattle.names.specs.Names.{threads}
+use Rattle.px86.specs.Machine.{Machine}
 use Rattle.px86.specs.Step.{Stepped, step}
 use Rattle.px86.specs.Step.Stepped.{to, barred, full}
 use Rattle.px86.specs.Runs.{work}
 use Rattle.px86.specs.Runs.Event.{run}
 use Rattle.px86.specs.Ask.{Tally}
+use Rattle.px86.proofs.Few.{Few}
+use Rattle.listing.specs.Listing.{opsIn, each, threadsIn, progIn}
 use Rattle.state.specs.State.{File, machineOf}
 use Rattle.state.specs.declared.State.{State}
 use Rattle.verdict.specs.Verdict.{verdictOf}
 use Rattle.verdict.specs.declared.Verdict.the-variants.{Allowed, Barred, NoRoom}
 use Rattle.machine.specs.Registers.{loadedOf}
 use Rattle.machine.specs.Taken.{Takes}
-use Rattle.machine.specs.declared.step.Next.{Next}
+use Rattle.machine.specs.declared.registers.Load.{Load}
 use Rattle.walk.specs.Codes.{First}
 use Rattle.walk.specs.Found.{goes, noted, Holds}
-use Rattle.walk.specs.Walk.{Walks, runs, onward}
+use Rattle.walk.specs.Walk.{asked, Walks, runs, onward}
 use Rattle.walk.specs.declared.codes.Found.{Found}
 use Rattle.walk.specs.declared.note.Asking.{Asking}
 use Rattle.walk.specs.declared.note.Walked.{Walked}
 use Rattle.walk.specs.declared.note.Status.the-variants as status
 use Rattle.walk.proofs.Passed.{allowed-below, full-below, first-allowed, first-full}
-use Rattle.walk.proofs.Onward.{square-loaded, work-falls, taken-falls, fold-runs, fold-end, fold-to, fold-full}
+use Rattle.walk.proofs.Onward.{square-loaded, work-falls, fold-runs, fold-end, fold-to, fold-full}
 use Rattle.walk.proofs.Holding.{done-stays, full-holds}
 
 take-front : (d : ℕ) (l : List ℕ) → take d (take (suc d) l) ≡ take d l
@@ -46,62 +48,114 @@ path-back xs ys d k h e =
     let same : take (suc d) ys ≡ take (suc d) (set xs d k) = rw (add-one d) at e in
     sym (take-front d ys) ∙ ap (take d) same ∙ take-front d (set xs d k) ∙ take-set-le d xs d k (omega arith)
 
-module _ (p : Program) (q : Asking) (s : State) (g : File) (ok : Walks p q s g) (r : List ℕ) (a : Tally) where
-  -- the run itself, and then those that extend it
-  pub visited : (w : Walked) (o : List ℕ) → Holds q w o (foldl (noted (progOf p) q) (noted (progOf p) q a (run r (machineOf s g))) (onward (progOf p) r (machineOf s g) 0)) → Holds q w o (foldl (noted (progOf p) q) a (runs (progOf p) r (machineOf s g)))
-  visited w o h = subst (Holds q w o) (sym (fold-runs p (ok .legal) s g (ok .state) (ok .file) (noted (progOf p) q) a r)) h
+-- a listing of n threads has n of them
+threads-length : (n : ℕ) (list : List ℕ) → length (threadsIn n list) ≡ n
+unfolding threadsIn
+threads-length zero list = refl
+threads-length (suc n) list = ap suc (threads-length n (drop each list))
 
-  -- the answer is known: nothing more is noted
-  pub stopped : (w : Walked) (o : List ℕ) → Holds q w o a → goes (w .status) ≡ false → (c : ℕ) → Holds q w o (foldl (noted (progOf p) q) a (onward (progOf p) r (machineOf s g) c))
-  stopped w o h e c = subst (Holds q w o) (sym (done-stays (progOf p) q w o a h e (onward (progOf p) r (machineOf s g) c))) h
+-- the program that is asked about has the question's locations
+pub asked-locs : (list : List ℕ) (q : Asking) → asked q list .locs ≡ q .locs
+unfolding progIn
+asked-locs list q = refl
 
-  module _ (c : ℕ) (f : Found) (first : First p s c f) where
-    -- no code is left
-    pub passed : (w : Walked) (o : List ℕ) → Holds q w o a → f .verdict ≡ Barred → Holds q w o (foldl (noted (progOf p) q) a (onward (progOf p) r (machineOf s g) c))
-    passed w o h e =
-        subst (Holds q w o)
-        (sym (fold-end p s g (noted (progOf p) q) a r c (f .code) (first .upto) (first .some e))) h
+-- an allowed step comes to a machine
+pub allowed-to : (x : Stepped) → verdictOf x ≡ Allowed → (m : Machine) × (x ≡ to m)
+allowed-to (to m) e = (m, refl)
+allowed-to barred e = let z : _≡_ {A = ℕ} 0 1 = cc in absurd (omega arith)
+allowed-to full e = let z : _≡_ {A = ℕ} 0 1 = cc in absurd (omega arith)
 
-    -- a step lacks room
-    pub filled : (w : Walked) (o : List ℕ) → Holds q w o a → w .status ≡ status.Going → (v : Walked) → v .status ≡ status.Full → f .verdict ≡ NoRoom → Holds q v o (foldl (noted (progOf p) q) a (onward (progOf p) r (machineOf s g) c))
-    filled w o h going v u e =
-        subst (Holds q v o)
-        (sym (fold-full p s g (noted (progOf p) q) a r c (f .code) (first .upto) (full-below p s c f first e) (first-full p s c f first e g)))
-        (full-holds (progOf p) q w o a h going v u (onward (progOf p) r (machineOf s g) (f .code + 1)))
+-- between two codes: w and o hold a tally from which the codes from k upward come to what those from c upward come to from a
+abbrev pub Between : List ℕ → Asking → State → File → List ℕ → Tally → ℕ → ℕ → Walked → List ℕ → Type 0
+Between list q s g r a c k w o = (b : Tally) × Holds q w o b × (foldl (noted (asked q list) q) b (onward (asked q list) r (machineOf s g) k) ≡ foldl (noted (asked q list) q) a (onward (asked q list) r (machineOf s g) c))
 
-    module _ (n : Next) (t : Takes (step (progOf p) (machineOf s g) (f .code)) g n) (k : File) (e : k ≡ loadedOf g (n .load)) where
-      -- a step is taken
-      pub taken : f .verdict ≡ Allowed → (w : Walked) (o : List ℕ) → Holds q w o (foldl (noted (progOf p) q) (foldl (noted (progOf p) q) a (runs (progOf p) (r ++ f .code ∷ []) (machineOf (n .state) k))) (onward (progOf p) r (machineOf s g) (f .code + 1))) → Holds q w o (foldl (noted (progOf p) q) a (onward (progOf p) r (machineOf s g) c))
-      taken yes′ w o h =
+module _ (list : List ℕ) (q : Asking) (s : State) (g : File) (ok : Walks list q s g) where
+  few : Few (asked q list)
+  unfolding progIn
+  few = omega (arith, threads-length (q .threads) list, ok .few)
+
+  -- where a code is allowed there is work left
+  pub has-work : (c : ℕ) → verdictOf (step (asked q list) (machineOf s g) c) ≡ Allowed → 0 < work (asked q list) (machineOf s g)
+  has-work c e =
+      let a = allowed-to (step (asked q list) (machineOf s g) c) e in
+      omega (arith, work-falls (asked q list) few s g (ok .state) (ok .file) c (a .0) (a .1))
+
+  -- the walk goes on from the next state, with less work
+  module _ (c : ℕ) (n : Load) (u : State) (t : Takes (step (asked q list) (machineOf s g) c) g n u) (k : File) (e : k ≡ loadedOf g n) where
+    pub walks-on : Walks list q u k
+    walks-on =
+        record {
+          few = ok .few;
+          beyond = ok .beyond;
+          sound = ok .sound;
+          lists = ok .lists;
+          asks = ok .asks;
+          state = t .valid;
+          file = rw e (square-loaded g n (ok .file) (t .load-in));
+        }
+
+    pub falls-on : work (asked q list) (machineOf u k) < work (asked q list) (machineOf s g)
+    falls-on = rw e (work-falls (asked q list) few s g (ok .state) (ok .file) c (machineOf u (loadedOf g n)) (t .is))
+
+    pub comes-to : (m : Machine) → step (asked q list) (machineOf s g) c ≡ to m → m ≡ machineOf u k
+    comes-to m f = let same : to m ≡ to (machineOf u (loadedOf g n)) = sym f ∙ t .is in rw e cc
+
+  module _ (r : List ℕ) (a : Tally) where
+    -- the run itself, and then those that extend it
+    pub visited :
+        (w : Walked) (o : List ℕ) → Holds q w o (foldl (noted (asked q list) q) (noted (asked q list) q a (run r (machineOf s g))) (onward (asked q list) r (machineOf s g) 0))
+        → Holds q w o (foldl (noted (asked q list) q) a (runs (asked q list) r (machineOf s g)))
+    visited w o h = subst (Holds q w o) (sym (fold-runs (asked q list) few s g (ok .state) (ok .file) (noted (asked q list) q) a r)) h
+
+    -- the same of what the visit has: the path that it goes on with, and the machine that its step comes to
+    pub arrived :
+        (w : Walked) (o on to′ : List ℕ) (m : Machine) → on ≡ to′ → m ≡ machineOf s g
+        → Holds q w o (foldl (noted (asked q list) q) (noted (asked q list) q a (run on (machineOf s g))) (onward (asked q list) on (machineOf s g) 0))
+        → r ≡ on → Holds q w o (foldl (noted (asked q list) q) a (runs (asked q list) to′ m))
+    arrived w o on to′ m e f h i =
+        subst (λ (x : List ℕ). Holds q w o (foldl (noted (asked q list) q) a (runs (asked q list) x m))) (i ∙ e)
+        (subst (λ (n : Machine). Holds q w o (foldl (noted (asked q list) q) a (runs (asked q list) r n))) (sym f)
+        (visited w o
+        (subst (λ (x : List ℕ). Holds q w o (foldl (noted (asked q list) q) (noted (asked q list) q a (run x (machineOf s g))) (onward (asked q list) x (machineOf s g) 0))) (sym i) h)))
+
+    pub at-first : (c : ℕ) (w : Walked) (o : List ℕ) → Holds q w o a → Between list q s g r a c c w o
+    at-first c w o h = (a, h, refl)
+
+    module _ (c k : ℕ) (w : Walked) (o : List ℕ) (between : Between list q s g r a c k w o) where
+      -- the answer is known: nothing more is noted
+      pub stopped : goes (w .status) ≡ false → Holds q w o (foldl (noted (asked q list) q) a (onward (asked q list) r (machineOf s g) c))
+      stopped e =
           subst (Holds q w o)
-          (sym (fold-to p s g (noted (progOf p) q) a r c (f .code) (first .upto) (machineOf (n .state) k) (allowed-below p s c f first yes′) (t .is ∙ ap (λ (i : File). to (machineOf (n .state) i)) (sym e)))) h
+          (sym (done-stays (asked q list) q w o (between .0) (between .1) e (onward (asked q list) r (machineOf s g) k)) ∙ between .2) (between .1)
 
-      -- the same of what the two calls have: the path that the first one is handed has the code, and the one that the second is handed has not
-      pub turned : f .verdict ≡ Allowed → (v w : Walked) (i o : List ℕ) (on back : List ℕ) → on ≡ r ++ f .code ∷ [] → back ≡ r → Holds q v i (foldl (noted (progOf p) q) a (runs (progOf p) on (machineOf (n .state) k))) → ((b : Tally) → Holds q v i b → Holds q w o (foldl (noted (progOf p) q) b (onward (progOf p) back (machineOf s g) (f .code + 1)))) → Holds q w o (foldl (noted (progOf p) q) a (onward (progOf p) r (machineOf s g) c))
-      turned yes′ v w i o on back e₁ e₂ h then =
-          taken yes′ w o
-          (subst (λ (b : List ℕ). Holds q w o (foldl (noted (progOf p) q) (foldl (noted (progOf p) q) a (runs (progOf p) (r ++ f .code ∷ []) (machineOf (n .state) k))) (onward (progOf p) b (machineOf s g) (f .code + 1)))) e₂
-          (then (foldl (noted (progOf p) q) a (runs (progOf p) (r ++ f .code ∷ []) (machineOf (n .state) k)))
-          (subst (λ (b : List ℕ). Holds q v i (foldl (noted (progOf p) q) a (runs (progOf p) b (machineOf (n .state) k)))) e₁ h)))
+      module _ (f : Found) (first : First list s k f) where
+        -- no code is left
+        pub passed : f .verdict ≡ Barred → Holds q w o (foldl (noted (asked q list) q) a (onward (asked q list) r (machineOf s g) c))
+        passed e =
+            subst (Holds q w o)
+            (sym (fold-end list (asked q list) (ok .lists) s g (noted (asked q list) q) (between .0) r k (f .code) (first .upto) (first .some e)) ∙ between .2)
+            (between .1)
 
--- where a code is allowed there is work left
-some-work : (p : Program) (q : Asking) (s : State) (g : File) → Walks p q s g → (c : ℕ) (x : Stepped) → step (progOf p) (machineOf s g) c ≡ x → verdictOf x ≡ Allowed → 0 < work (progOf p) (machineOf s g)
-some-work p q s g ok c (to n) e v = omega (arith, work-falls p (ok .legal) s g (ok .state) (ok .file) c n e)
-some-work p q s g ok c barred e v = let z : _≡_ {A = ℕ} 0 1 = cc in absurd (omega arith)
-some-work p q s g ok c full e v = let z : _≡_ {A = ℕ} 0 1 = cc in absurd (omega arith)
+        -- a step lacks room
+        pub filled :
+            w .status ≡ status.Going → (v : Walked) → v .status ≡ status.Full → f .verdict ≡ NoRoom
+            → Holds q v o (foldl (noted (asked q list) q) a (onward (asked q list) r (machineOf s g) c))
+        filled going v u e =
+            subst (Holds q v o)
+            (sym (fold-full list (asked q list) (ok .lists) s g (noted (asked q list) q) (between .0) r k (f .code) (first .upto) (full-below list s k f first e) (first-full list s k f first e (asked q list) g (ok .lists)))
+            ∙ between .2)
+            (full-holds (asked q list) q w o (between .0) (between .1) going v u (onward (asked q list) r (machineOf s g) (f .code + 1)))
 
-pub has-work : (p : Program) (q : Asking) (s : State) (g : File) → Walks p q s g → (c : ℕ) (f : Found) → First p s c f → f .verdict ≡ Allowed → 0 < work (progOf p) (machineOf s g)
-has-work p q s g ok c f first e =
-    some-work p q s g ok (f .code) (step (progOf p) (machineOf s g) (f .code)) refl (first-allowed p s c f first e g)
-
--- the walk goes on from the next state, with less work
-module _ (p : Program) (q : Asking) (s : State) (g : File) (ok : Walks p q s g) (c : ℕ) (n : Next) (t : Takes (step (progOf p) (machineOf s g) c) g n) (k : File) (e : k ≡ loadedOf g (n .load)) where
-  pub walks-on : Walks p q (n .state) k
-  walks-on = record { legal = ok .legal; asks = ok .asks; locs = ok .locs; state = t .valid; file = rw e (square-loaded g (n .load) (ok .file) (t .load-in)) }
-
-  pub falls-on : work (progOf p) (machineOf (n .state) k) < work (progOf p) (machineOf s g)
-  falls-on = rw e (taken-falls p (ok .legal) s g (ok .state) (ok .file) c n t)
-
--- and so room in the path
-pub path-room : (p : Program) (q : Asking) (s : State) (g : File) → Walks p q s g → (c : ℕ) (f : Found) → First p s c f → f .verdict ≡ Allowed → (d : ℕ) (xs : List ℕ) → d + work (progOf p) (machineOf s g) ≤ length xs → d < length xs
-path-room p q s g ok c f first e d xs h = omega (arith, has-work p q s g ok c f first e)
+        -- a step is taken: what the visit of it holds, in a path that has the code
+        pub taken :
+            f .verdict ≡ Allowed → (v : Walked) (i back : List ℕ) → back ≡ r
+            → ((b : Tally) (m : Machine) → Holds q w o b → step (asked q list) (machineOf s g) (f .code) ≡ to m
+            → Holds q v i (foldl (noted (asked q list) q) b (runs (asked q list) (back ++ f .code ∷ []) m)))
+            → Between list q s g r a c (f .code + 1) v i
+        taken e v i back same visit =
+            let x = allowed-to (step (asked q list) (machineOf s g) (f .code)) (first-allowed list s k f first e (asked q list) g (ok .lists)) in (
+              foldl (noted (asked q list) q) (between .0) (runs (asked q list) (r ++ f .code ∷ []) (x .0)),
+              rw same at (visit (between .0) (x .0) (between .1) (x .1)),
+              sym (fold-to list (asked q list) (ok .lists) s g (noted (asked q list) q) (between .0) r k (f .code) (first .upto) (x .0) (allowed-below list s k f first e) (x .1))
+                  ∙ between .2,
+            )

@@ -27,12 +27,11 @@ use Rattle.px86.proofs.Fuel.{tries-same, fuel}
 use Rattle.px86.proofs.Bound.{work-from}
 use Rattle.state.specs.State.{File, machineOf, noRegisters, Valid}
 use Rattle.state.specs.declared.State.{State}
+use Rattle.listing.specs.Listing.{Lists}
 use Rattle.state.proofs.Reading.{six-queues, four-buffers}
 use Rattle.machine.specs.Registers.{loadedOf, LoadIn}
-use Rattle.machine.specs.Taken.{Takes}
 use Rattle.machine.specs.declared.registers.Load.{Load}
 use Rattle.machine.specs.declared.registers.Load.the-variants.{Nothing, Into}
-use Rattle.machine.specs.declared.step.Next.{Next}
 use Rattle.walk.specs.Walk.{runs, onward, Square}
 use Rattle.walk.specs.Codes.{Upto}
 
@@ -56,8 +55,8 @@ shape-of s g v q =
       places = v .places;
       registers = q .rows;
       each = q .each;
-      buffers = four-buffers s v;
-      queues = six-queues s v;
+      buffers = four-buffers (s .buffered) (s .buffers) (v .buffers);
+      queues = six-queues (s .queued) (s .queues) (v .queues);
       memory = v .memory;
     }
 
@@ -126,40 +125,39 @@ module _ (p : Program) (h : legal p ≡ true) where
   unfolding start
   work-start = omega (arith, work-from (progOf p) (legal-few p h) [], few-entries)
 
+-- a program of at most four threads
+module _ (p : Prog) (few : Few p) where
   module _ (s : State) (g : File) (v : Valid s) (q : Square g) where
     -- an allowed step leaves less work
-    pub work-falls : (c : ℕ) (n : Machine) → step (progOf p) (machineOf s g) c ≡ to n → work (progOf p) n < work (progOf p) (machineOf s g)
+    pub work-falls : (c : ℕ) (n : Machine) → step p (machineOf s g) c ≡ to n → work p n < work p (machineOf s g)
     work-falls c n e =
-        subst (Then (λ o. work (progOf p) o < work (progOf p) (machineOf s g))) e (falls (progOf p) (legal-few p h) (machineOf s g) c (shape-of s g v q))
+        subst (Then (λ o. work p o < work p (machineOf s g))) e (falls p few (machineOf s g) c (shape-of s g v q))
 
-    pub taken-falls : (c : ℕ) (x : Next) → Takes (step (progOf p) (machineOf s g) c) g x → work (progOf p) (machineOf (x .state) (loadedOf g (x .load))) < work (progOf p) (machineOf s g)
-    taken-falls c x t = work-falls c (machineOf (x .state) (loadedOf g (x .load))) (t .is)
+    pub runs-are : (r : List ℕ) → runs p r (machineOf s g) ≡ run r (machineOf s g) ∷ onward p r (machineOf s g) 0
+    runs-are r = shape-runs p few r (machineOf s g) (shape-of s g v q)
 
-    pub runs-are : (r : List ℕ) → runs (progOf p) r (machineOf s g) ≡ run r (machineOf s g) ∷ onward (progOf p) r (machineOf s g) 0
-    runs-are r = shape-runs (progOf p) (legal-few p h) r (machineOf s g) (shape-of s g v q)
-
-    pub fold-runs : {A : Type 0} (f : A → Event → A) (a : A) (r : List ℕ) → foldl f a (runs (progOf p) r (machineOf s g)) ≡ foldl f (f a (run r (machineOf s g))) (onward (progOf p) r (machineOf s g) 0)
+    pub fold-runs : {A : Type 0} (f : A → Event → A) (a : A) (r : List ℕ) → foldl f a (runs p r (machineOf s g)) ≡ foldl f (f a (run r (machineOf s g))) (onward p r (machineOf s g) 0)
     fold-runs f a r = ap (foldl f a) (runs-are r)
 
 -- a fold over the runs that go on with a code from c upward, where k is the first of them that is not barred
-module _ (p : Program) (s : State) (g : File) {A : Type 0} (f : A → Event → A) (a : A) (r : List ℕ) (c k : ℕ) (u : Upto p s c k) where
-  upto-skip : onward (progOf p) r (machineOf s g) c ≡ onward (progOf p) r (machineOf s g) k
-  upto-skip = onward-skip (progOf p) r (machineOf s g) c k (u .from) (u .most) (u .none g)
+module _ (list : List ℕ) (p : Prog) (l : Lists list p) (s : State) (g : File) {A : Type 0} (f : A → Event → A) (a : A) (r : List ℕ) (c k : ℕ) (u : Upto list s c k) where
+  upto-skip : onward p r (machineOf s g) c ≡ onward p r (machineOf s g) k
+  upto-skip = onward-skip p r (machineOf s g) c k (u .from) (u .most) (λ j. u .none p g j l)
 
-  pub fold-end : codes ≤ k → foldl f a (onward (progOf p) r (machineOf s g) c) ≡ a
+  pub fold-end : codes ≤ k → foldl f a (onward p r (machineOf s g) c) ≡ a
   fold-end h =
       let e : k ≡ codes = omega (arith, u .most) in
-      ap (foldl f a) (upto-skip ∙ ap (onward (progOf p) r (machineOf s g)) e ∙ onward-end (progOf p) r (machineOf s g))
+      ap (foldl f a) (upto-skip ∙ ap (onward p r (machineOf s g)) e ∙ onward-end p r (machineOf s g))
 
   pub fold-to :
-      (n : Machine) → k < codes → step (progOf p) (machineOf s g) k ≡ to n
-      → foldl f a (onward (progOf p) r (machineOf s g) c)
-      ≡ foldl f (foldl f a (runs (progOf p) (r ++ k ∷ []) n)) (onward (progOf p) r (machineOf s g) (k + 1))
+      (n : Machine) → k < codes → step p (machineOf s g) k ≡ to n
+      → foldl f a (onward p r (machineOf s g) c)
+      ≡ foldl f (foldl f a (runs p (r ++ k ∷ []) n)) (onward p r (machineOf s g) (k + 1))
   fold-to n h e =
-      ap (foldl f a) (upto-skip ∙ onward-to (progOf p) r (machineOf s g) k n h e)
-      ∙ foldl-append f a (runs (progOf p) (r ++ k ∷ []) n) (onward (progOf p) r (machineOf s g) (k + 1))
+      ap (foldl f a) (upto-skip ∙ onward-to p r (machineOf s g) k n h e)
+      ∙ foldl-append f a (runs p (r ++ k ∷ []) n) (onward p r (machineOf s g) (k + 1))
 
   pub fold-full :
-      k < codes → step (progOf p) (machineOf s g) k ≡ full
-      → foldl f a (onward (progOf p) r (machineOf s g) c) ≡ foldl f (f a noRoom) (onward (progOf p) r (machineOf s g) (k + 1))
-  fold-full h e = ap (foldl f a) (upto-skip ∙ onward-full (progOf p) r (machineOf s g) k h e)
+      k < codes → step p (machineOf s g) k ≡ full
+      → foldl f a (onward p r (machineOf s g) c) ≡ foldl f (f a noRoom) (onward p r (machineOf s g) (k + 1))
+  fold-full h e = ap (foldl f a) (upto-skip ∙ onward-full p r (machineOf s g) k h e)

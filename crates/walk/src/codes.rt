@@ -1,23 +1,23 @@
 // The first code that is not barred. Threads that are not there, places behind a buffer's last entry and empty queues are passed over.
 ghost use mathlib.Core.Path.{_≡_};
-ghost use mathlib.Core.Bool.{true};
-ghost use Prim.Native.Nat.{_≤_};
-ghost use Rattle.program.specs.Legal.{legal};
+ghost use mathlib.Core.List.{List};
+ghost use Prim.Native.Nat.{ℕ, _≤_};
+ghost use lib.Dec.{ltb};
+ghost use Rattle.names.specs.Names.{pick, threads as mostThreads};
 ghost use Rattle.px86.specs.Runs.{codes};
-ghost use Rattle.state.specs.State.{Valid};
-ghost use Rattle.walk.specs.Codes.{Upto, First};
+ghost use Rattle.listing.specs.Listing.{Sound};
+ghost use Rattle.state.specs.State.{Queues, Buffers, held, Valid};
+ghost use Rattle.walk.specs.Codes.{Beyond, First, barring, foundAt};
 use names::Loc;
 use names::Thread;
-use program::Program;
-use state::State;
-use state::buffer_len;
-use state::queue_len;
 use verdict::LEAVE;
 use verdict::LEAVE_END;
 use verdict::PERSIST;
 use verdict::PERSIST_END;
 use verdict::Verdict;
-use verdict::judge;
+use verdict::may_leave;
+use verdict::may_persist;
+use verdict::may_step;
 
 // A code and the verdict on it; barred where there is none.
 pub struct Found {
@@ -25,66 +25,108 @@ pub struct Found {
     pub verdict: Verdict,
 }
 
-// Passes over codes from c upward that are plainly barred. The code that it comes to need not be allowed.
-fn skip_to(p: Program, s: State, c: u8) -> u8
-    requires { ⌜ Valid s ⌝ }
-    requires { ⌜ c ≤ codes ⌝ }
-    ensures { λ r. ⌜ Upto p s c r ⌝ }
+fn at_code(code: u8, verdict: Verdict) -> Found
+    ensures { λ r. ⌜ r ≡ foundAt code verdict ⌝ }
 {
-    let threads = p.threads;
-    if c < threads {
-        return c;
-    }
-    if c < LEAVE {
-        return LEAVE;
-    }
-    if c < LEAVE_END {
-        let t = (c - LEAVE) / 8;
-        if (c - LEAVE) % 8 < buffer_len(s, Thread(t)) {
-            return c;
-        }
-        return LEAVE + 8 * (t + 1);
-    }
-    if c < PERSIST {
-        return PERSIST;
-    }
-    if c < PERSIST_END {
-        if queue_len(s, Loc(c - PERSIST)) == 0 {
-            return c + 1;
-        }
-    }
-    c
+    Found { code, verdict }
 }
 
-// The first code from c upward that is not barred, with its verdict.
-pub fn next_from(p: Program, s: State, c: u8) -> Found
-    requires { ⌜ legal p ≡ true ⌝ }
-    requires { ⌜ Valid s ⌝ }
-    requires { ⌜ c ≤ codes ⌝ }
-    ensures { λ r. ⌜ First p s c r ⌝ }
+// Whether a verdict is that the code is barred.
+fn is_barred(v: Verdict) -> bool
+    ensures { λ r. ⌜ r ≡ barring v ⌝ }
 {
-    let mut k = skip_to(p, s, c);
+    match v {
+        Verdict::Allowed => false,
+        Verdict::Barred => true,
+        Verdict::NoRoom => false,
+    }
+}
+
+// The code k, or the code m where that is greater.
+fn at_least(k: u8, m: u8) -> u8
+    ensures { λ r. ⌜ r ≡ pick (ltb k m) m k ⌝ }
+{
+    if k < m { m } else { k }
+}
+
+// The first queue from code c upward that is not empty.
+fn next_persist(queues: &[u8; 6], c: u8) -> Found
+    requires { ⌜ (64 ≤ c) × (c ≤ codes) ⌝ }
+    ensures { λ r. ⌜ ((list xs ys ms ps vs : List ℕ) → Queues xs (now (queues .entry)) → First list (held xs (now (queues .entry)) ys ms ps vs) c r) ⌝ }
+{
+    let mut k = c;
     while k < PERSIST_END {
-        let v = judge(p, s, k);
-        match v {
-            Verdict::Allowed => {
-                return Found {
-                    code: k,
-                    verdict: Verdict::Allowed,
-                };
-            }
-            Verdict::Barred => {}
-            Verdict::NoRoom => {
-                return Found {
-                    code: k,
-                    verdict: Verdict::NoRoom,
-                };
-            }
+        let v = may_persist(queues, Loc(k - PERSIST));
+        if !is_barred(v) {
+            return at_code(k, v);
         }
-        k = skip_to(p, s, k + 1);
+        k += 1;
     }
-    Found {
-        code: k,
-        verdict: Verdict::Barred,
+    at_code(k, Verdict::Barred)
+}
+
+// The first entry from code c upward that may leave its buffer; behind them the queues.
+fn next_leave<'a>(
+    queued: &'a [u16; 192],
+    queues: &'a [u8; 6],
+    buffered: &'a [u16; 32],
+    buffers: &'a [u8; 4],
+    c: u8,
+) -> Found
+    requires { ⌜ Queues (now queued) (now queues) ⌝ }
+    requires { ⌜ Buffers (now buffered) (now buffers) ⌝ }
+    requires { ⌜ (16 ≤ c) × (c ≤ codes) ⌝ }
+    ensures { λ r. ⌜ ((list ps vs : List ℕ) → First list (held (now (queued .entry)) (now (queues .entry)) (now (buffered .entry)) (now (buffers .entry)) ps vs) c r) ⌝ }
+{
+    let mut k = c;
+    while k < LEAVE_END {
+        let t = (k - LEAVE) / 8;
+        let i = (k - LEAVE) % 8;
+        if i < buffers[t as usize] {
+            let v = may_leave(queued, queues, buffered, buffers, Thread(t), i);
+            if !is_barred(v) {
+                return at_code(k, v);
+            }
+            k += 1;
+        } else {
+            k += 8 - i;
+        }
     }
+    next_persist(queues, at_least(k, PERSIST))
+}
+
+// The first code from c upward that is not barred, with its verdict, where the program has so many threads.
+pub fn next_from<'a>(
+    list: &'a [u32; 36],
+    threads: u8,
+    queued: &'a [u16; 192],
+    queues: &'a [u8; 6],
+    buffered: &'a [u16; 32],
+    buffers: &'a [u8; 4],
+    places: &'a [u8; 4],
+    memory: &'a [u8; 6],
+    c: u8,
+) -> Found
+    requires { ⌜ Sound (now list) × Valid (held (now queued) (now queues) (now buffered) (now buffers) (now places) (now memory)) ⌝ }
+    requires { ⌜ (threads ≤ mostThreads) × Beyond (now list) threads × (c ≤ codes) ⌝ }
+    ensures { λ r. ⌜ First (now (list .entry)) (held (now (queued .entry)) (now (queues .entry)) (now (buffered .entry)) (now (buffers .entry)) (now (places .entry)) (now (memory .entry))) c r ⌝ }
+{
+    let mut k = c;
+    while k < threads {
+        let v = may_step(
+            list,
+            queued,
+            queues,
+            buffered,
+            buffers,
+            places,
+            memory,
+            Thread(k),
+        );
+        if !is_barred(v) {
+            return at_code(k, v);
+        }
+        k += 1;
+    }
+    next_leave(queued, queues, buffered, buffers, at_least(k, LEAVE))
 }

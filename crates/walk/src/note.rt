@@ -20,21 +20,22 @@ pub enum Status {
     Full,
 }
 
-// What is asked: all memories, or the one whose bytes are the first `locs` of `wanted`; how many locations there are, and how many runs may
-// be looked at.
+// What is asked: all memories, or the one whose bytes are the first `locs` of `wanted`; how many locations and threads there are, and how
+// many runs may be looked at.
 pub struct Asking {
     pub all: bool,
     pub wanted: [u8; 6],
     pub locs: u8,
+    pub threads: u8,
     pub budget: u32,
 }
 
-// How many runs were visited; whether the list, or the run, is too long for the lent buffer; and how much of it is used.
+// How much of the lent buffer is used; how many runs were visited; and whether the list, or the run, is too long for it.
 pub struct Walked {
-    pub status: Status,
-    pub count: u32,
-    pub long: bool,
     pub used: usize,
+    pub count: u32,
+    pub status: Status,
+    pub long: bool,
 }
 
 // Whether the first n bytes of two memories are the same.

@@ -1,6 +1,6 @@
 -- Op lines and want lines over two locations, computed: each word, and each kind of refusal; misshapen comes before a limit. Assumes nothing.
 use mathlib.Core.Path.{_≡_, refl}
-use mathlib.Core.List.{List, [], _∷_}
+use mathlib.Core.List.{[], _∷_}
 use Prim.Native.Nat.{ℕ}
 use Rattle.names.specs.Names.{pick}
 use Rattle.names.specs.declared.Loc.{Loc}
@@ -11,11 +11,10 @@ use Rattle.number.specs.Decimal.{reading, numberOf}
 use Rattle.line.specs.Split.{split, begins, equal}
 use Rattle.line.specs.Line.{within}
 use Rattle.line.specs.Fields.{fieldsFrom, fieldsOf}
-use Rattle.words.specs.declared.OpLine.{OpLine}
 use Rattle.words.specs.declared.OpLine.the-variants.{BadShape, BadLimit, Fine}
 use Rattle.words.specs.Words.{named, kindOf}
 use Rattle.words.specs.Op.{opParts, opLine}
-use Rattle.words.specs.Want.{WantLine, shape, limit, fine, wantRest, wantLine}
+use Rattle.words.specs.Want.{shape, limit, fine, wantRest, wantLine}
 
 abbrev loc : ℕ → Loc
 loc n = record { 0 = n }

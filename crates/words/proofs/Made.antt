@@ -1,20 +1,18 @@
 -- The turns of the code that makes an instruction and a want of a line's numbers. Assumes nothing.
-use mathlib.Core.Path.{_≡_, refl, sym, _∙_, ap}
+use mathlib.Core.Path.{_≡_, refl, sym, _∙_}
 use mathlib.Core.Bool.{Bool, true, false}
 use mathlib.Core.List.{List, [], _∷_, _++_}
-use Prim.Native.Nat.{ℕ, zero, suc, _+_, _-_, _≤_, _<_}
+use Prim.Native.Nat.{ℕ, zero, suc, _-_}
 use native.Mathlib.Omega.{arith}
 use lib.ListN.{length, getD, replicate}
 use Rattle.names.specs.Names.{pick}
 use Rattle.tables.specs.Tables.{padded}
-use Rattle.program.specs.Program.Wanted.{all, one}
-use Rattle.line.specs.Split.{equal, begins}
+use Rattle.line.specs.Split.{equal}
 use Rattle.line.specs.Fields as fields
-use Rattle.line.specs.Fields.{Judged, Range, fieldsFrom, rangesFrom, packed, Long}
+use Rattle.line.specs.Fields.{Judged, fieldsFrom, rangesFrom, packed}
 use Rattle.words.specs.declared.Kind.{Kind}
 use Rattle.words.specs.declared.Kind.the-variants.{WordSt, WordSr, WordLd, WordCas, WordFaa, WordMf, WordSf, WordFl, WordFo, WordBz, Other}
-use Rattle.words.specs.declared.OpLine.{OpLine}
-use Rattle.words.specs.declared.OpLine.the-variants.{BadShape, BadLimit, Fine}
+use Rattle.words.specs.declared.OpLine.the-variants.{BadShape, BadLimit}
 use Rattle.words.specs.Words.{word, made, named}
 use Rattle.words.specs.Op.{opMade}
 

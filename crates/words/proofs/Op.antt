@@ -16,8 +16,7 @@ use Rattle.line.proofs.Join.{join-split, split-join}
 use Rattle.line.proofs.Lines.{begins-is, begins-of}
 use Rattle.line.proofs.Fields.{fields-is, fields-of, clean-numbers}
 use Rattle.words.specs.declared.Kind.{Kind}
-use Rattle.words.specs.declared.OpLine.{OpLine}
-use Rattle.words.specs.declared.OpLine.the-variants.{BadShape, BadLimit, Fine}
+use Rattle.words.specs.declared.OpLine.the-variants.{BadShape, Fine}
 use Rattle.words.specs.Words.{word, ranges, made, kindIs, operands, kindOf}
 use Rattle.words.specs.Op.{opKey, opMade, opParts, opLine, opText, Within}
 use Rattle.words.proofs.Words.{word-is, kind-of, clean-word, made-is, made-of, known}

@@ -9,18 +9,18 @@ use lib.Seq.{drop-append-seam}
 use Rattle.names.specs.Names.{pick}
 use Rattle.program.specs.Program.{Wanted}
 use Rattle.program.specs.Program.Wanted.{all, one}
-use Rattle.number.specs.Decimal.{decimal, Reading, misshapen, value, isDigit, reading, numberOf}
+use Rattle.number.specs.Decimal.{decimal, misshapen, value, reading, numberOf}
 use Rattle.number.proofs.Laws.{numberOf-decimal}
 use Rattle.line.specs.Split.{split, begins, equal, comma}
 use Rattle.line.specs.Join.{join}
 use Rattle.line.specs.Fields as fields
 use Rattle.line.specs.Fields.{Judged, Range, fieldsFrom, fieldsOf, Fits, rangesFrom, packed}
 use Rattle.line.proofs.Join.{join-split, split-join, clean-decimal}
-use Rattle.line.proofs.Lines.{begins-is, begins-of, equal-is, equal-of}
+use Rattle.line.proofs.Lines.{begins-is, begins-of, equal-is}
 use Rattle.line.proofs.Fields.{fields-is, fields-of, fits-length, clean-numbers}
 use Rattle.words.specs.declared.WantRead.{WantRead}
 use Rattle.words.specs.Words.{byte, rangeOf}
-use Rattle.words.specs.Want.{wantKey, allWord, WantLine, shape, limit, fine, wantRanges, wantJudged, wantRest, wantLine, wantText, WantFits, wantBlank, packedWant}
+use Rattle.words.specs.Want.{wantKey, allWord, shape, limit, fine, wantRanges, wantJudged, wantRest, wantLine, wantText, WantFits, wantBlank, packedWant}
 
 -- "all" is no list of numbers
 not-number : (n : ℕ) → allWord ≡ decimal n → ⊥

@@ -15,8 +15,7 @@ use Rattle.line.proofs.Lines.{equal-is}
 use Rattle.line.proofs.Fields.{fits-length}
 use Rattle.words.specs.declared.Kind.{Kind}
 use Rattle.words.specs.declared.Kind.the-variants.{WordSt, WordSr, WordLd, WordCas, WordFaa, WordMf, WordSf, WordFl, WordFo, WordBz, Other}
-use Rattle.words.specs.declared.OpLine.{OpLine}
-use Rattle.words.specs.declared.OpLine.the-variants.{BadShape, BadLimit, Fine}
+use Rattle.words.specs.declared.OpLine.the-variants.{BadShape, Fine}
 use Rattle.words.specs.Words.{word, kinds, ranges, made, kindIs, operands, named, kindOf}
 
 -- the word of a kind that is known

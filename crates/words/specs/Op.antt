@@ -10,7 +10,7 @@ use Rattle.line.specs.Join.{join}
 use Rattle.line.specs.Fields.{Judged, shape, limit, fine, fieldsFrom, Fits}
 use Rattle.words.specs.declared.Kind.{Kind}
 use Rattle.words.specs.declared.OpLine.{OpLine}
-use Rattle.words.specs.declared.OpLine.the-variants.{BadShape, BadLimit, Fine}
+use Rattle.words.specs.declared.OpLine.the-variants.{BadShape, BadLimit}
 use Rattle.words.specs.Words.{word, made, kindOf, ranges, kindIs, operands}
 
 -- "op="

@@ -1,6 +1,5 @@
 -- THE TABLE of the instructions' texts (document 01, "Instructions"): for each word its operands and the instruction that they make.
 -- Reader, writer and laws go by it alone. Assumes nothing: these are definitions.
-use mathlib.Core.Bool.{Bool, true, false}
 use mathlib.Core.List.{List, [], _∷_, map}
 use Prim.Native.Nat.{ℕ, _-_}
 use lib.ListN.{getD}
@@ -15,7 +14,7 @@ use Rattle.line.specs.Split.{equal}
 use Rattle.words.specs.declared.Kind.{Kind}
 use Rattle.words.specs.declared.Kind.the-variants.{WordSt, WordSr, WordLd, WordCas, WordFaa, WordMf, WordSf, WordFl, WordFo, WordBz, Other}
 use Rattle.words.specs.declared.OpLine.{OpLine}
-use Rattle.words.specs.declared.OpLine.the-variants.{BadShape, BadLimit, Fine}
+use Rattle.words.specs.declared.OpLine.the-variants.{BadShape, Fine}
 
 -- what an operand is: "a location must be below locs", "four registers per thread", "Values are 0 to 255", "K 1 to 8"
 pub data Sort : Type 0 where

@@ -208,9 +208,6 @@ pub fn op_line(s: &[u8], locs: u8) -> OpLine
     requires { ⌜ 0 < locs ⌝ }
     ensures { λ r. ⌜ r ≡ opLine locs (now (s .entry)) ⌝ }
 {
-    if s.len() < 3 {
-        return OpLine::BadShape;
-    }
     if line::starts(b"op=", s) {
         return op_parts(&s[3..], locs);
     }
@@ -275,9 +272,6 @@ pub fn want_line(s: &[u8], locs: u8) -> WantRead
     requires { ⌜ locs ≤ locations ⌝ }
     ensures { λ r. ⌜ r ≡ packedWant (wantLine locs (now (s .entry))) ⌝ }
 {
-    if s.len() < 5 {
-        return want_all(2);
-    }
     if line::starts(b"want=", s) {
         return want_rest(&s[5..], locs);
     }

@@ -14,20 +14,18 @@ use Rattle.program.specs.declared.Op.the-variants.{St, Sr, Ld, Cas, Faa, Mf, Sf
 use Rattle.program.specs.Program.{Wanted, mostOps}
 use Rattle.program.specs.Program.Wanted.{all, one}
 use Rattle.number.specs.Decimal.{decimal}
-use Rattle.line.specs.declared.Field.the-variants as field
 use Rattle.line.specs.Split.{split, begins, comma, lineFeed}
-use Rattle.line.specs.Line.{numberLine}
 use Rattle.line.specs.Join.{join, Clean, AllClean}
 use Rattle.line.proofs.Join.{split-clean, split-whole, clean-append, clean-decimal}
-use Rattle.line.proofs.Lines.{number-line-of, begins-is}
+use Rattle.line.proofs.Lines.{number-line-of}
 use Rattle.words.specs.Words.{word, kindIs, operands}
-use Rattle.words.specs.Op.{opKey, opLine, opText, Within}
-use Rattle.words.specs.Want.{wantKey, allWord, wantLine, wantText}
+use Rattle.words.specs.Op.{opKey, opText, Within}
+use Rattle.words.specs.Want.{wantKey, allWord, wantText}
 use Rattle.words.proofs.Op.{op-of, op-begins}
 use Rattle.words.proofs.Want.{want-of}
 use Rattle.question.specs.Question.{Asked, AllWithin, ThreadsWithin}
 use Rattle.question.specs.Past.{past, firstThread}
-use Rattle.text.specs.Read.{Head, So, nothing, threaded, located, budgeted, wanting, inside, next, step, threadsKey, locsKey, budgetKey, threadKey, threadLine, Outcome, accepted, askedOf, onPast, readParts, mostBytes, readText}
+use Rattle.text.specs.Read.{Head, So, nothing, threaded, located, budgeted, wanting, inside, next, step, threadsKey, locsKey, budgetKey, threadKey, accepted, askedOf, onPast, readParts, mostBytes, readText}
 use Rattle.text.specs.Packed.{HeadFits}
 use Rattle.text.proofs.Legal.{Fitting}
 use Rattle.write.specs.Lines.{threadLines, headLines, linesOf, unlines, textOf}

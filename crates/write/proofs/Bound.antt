@@ -1,5 +1,5 @@
 -- How long a text can be: at most 708 bytes, of which there are texts. Assumes nothing.
-use Prim.Native.Nat.{ℕ, _+_, _*_, _≤_, _<_}
+use Prim.Native.Nat.{ℕ, _+_, _*_, _≤_}
 use mathlib.Core.Path.{_≡_, refl, ap, sym, subst, _∙_}
 use mathlib.Core.List.{List, [], _∷_, _++_, map}
 use native.Mathlib.Omega.{arith}
@@ -7,7 +7,6 @@ use lib.ListN.{length, length-append, replicate}
 use Rattle.names.specs.Names.{locations, threads}
 use Rattle.program.specs.declared.Op.{Op}
 use Rattle.program.specs.declared.Op.the-variants.{Cas}
-use Rattle.program.specs.Program.{Prog, Wanted, mostOps}
 use Rattle.program.specs.Program.Wanted.{one}
 use Rattle.number.specs.Decimal.{digits, decimal}
 use Rattle.number.proofs.Lengths.{digit-short, budget-short}
@@ -23,11 +22,11 @@ use Rattle.write.specs.Lines.{threadLines, headLines, linesOf, unlines, 
 use Rattle.write.proofs.Written.{unlines-append}
 
 -- a line, its line feed, and the lines behind it
-line-long : (l : List ℕ) (ls : List (List ℕ)) → length (unlines (l ∷ ls)) ≡ length l + 1 + length (unlines ls)
+pub line-long : (l : List ℕ) (ls : List (List ℕ)) → length (unlines (l ∷ ls)) ≡ length l + 1 + length (unlines ls)
 unfolding unlines
 line-long l ls = length-append l (lineFeed ∷ unlines ls) ∙ omega arith
 
-none-long : length (unlines []) ≡ 0
+pub none-long : length (unlines []) ≡ 0
 unfolding unlines
 none-long = refl
 
@@ -37,11 +36,11 @@ ops-long locs [] h w = omega (arith, none-long)
 ops-long locs (o ∷ os) h w = omega (arith, line-long (opText o) (map opText os), op-short locs o h (w .0), ops-long locs os h (w .1))
 
 -- a thread: its line of nine bytes, and eight op lines
-threads-none : (k : ℕ) → length (unlines (threadLines k [])) ≡ 0
+pub threads-none : (k : ℕ) → length (unlines (threadLines k [])) ≡ 0
 unfolding threadLines
 threads-none k = none-long
 
-threads-more :
+pub threads-more :
     (k : ℕ) (os : List Op) (oss : List (List Op))
     → length (unlines (threadLines k (os ∷ oss))) ≡ length (threadKey ++ decimal k) + 1 + (length (unlines (map opText os)) + length (unlines (threadLines (k + 1) oss)))
 unfolding threadLines

@@ -1,21 +1,20 @@
 -- THE ROUND TRIPS, of questions in memory. Assumes nothing.
-use Prim.Native.Nat.{ℕ, zero, suc, _+_, _≤_, _<_}
+use Prim.Native.Nat.{ℕ, zero, suc, _+_}
 use mathlib.Core.Path.{_≡_, refl, ap, sym, subst, _∙_}
-use mathlib.Core.Bool.{Bool, true, false, _&&_}
-use mathlib.Core.Option.{Option, none, some}
-use mathlib.Core.List.{List, [], _∷_, _++_}
+use mathlib.Core.Bool.{true, false, _&&_}
+use mathlib.Core.Option.{none}
+use mathlib.Core.List.{List, [], _∷_}
 use native.Mathlib.Omega.{arith}
 use borrow.Author.Tests.{le-ltb, leb-true}
-use lib.Dec.{leb, eqb}
+use lib.Dec.{leb}
 use lib.ListN.{length, replicate}
 use Rattle.names.specs.Names.{pick, threads, mostRuns, isBudget}
 use Rattle.program.specs.declared.Op.{Op}
 use Rattle.program.specs.declared.Op.the-variants.{St, Sr, Ld, Cas, Faa, Mf, Sf, Fl, Fo, Bz}
-use Rattle.program.specs.declared.Program.{Program}
 use Rattle.program.specs.declared.Question.{Question}
 use Rattle.program.specs.Program.{Prog, progOf, countsOf, mostOps, Same, Wanted, wantedOf}
-use Rattle.program.specs.Program.Wanted.{all, one}
-use Rattle.program.specs.Legal.{legalOp, legalOps, legalThreads, legalSizes, legalProg, allBelow, legal, legalAsked}
+use Rattle.program.specs.Program.Wanted.{one}
+use Rattle.program.specs.Legal.{legalOp, legalOps, legalThreads, legalProg, allBelow, legal, legalAsked}
 use Rattle.program.specs.Kept.{Sized}
 use Rattle.program.proofs.Tests.{both, sizes}
 use Rattle.program.proofs.Same.{stands-same}
@@ -28,12 +27,12 @@ use Rattle.question.specs.Past.{leaps, pastIn, past, firstThread}
 use Rattle.question.proofs.Made.{prog-back, made-sized, wanted-back}
 use Rattle.question.proofs.Lawful.{legal-parts, legal-short, made-legal, within-short}
 use Rattle.text.specs.declared.Parsed.{Parsed}
-use Rattle.text.specs.declared.Verdict.{Verdict}
-use Rattle.text.specs.declared.Verdict.the-variants.{Accepted, Refused}
+use Rattle.text.specs.declared.Verdict.the-variants.{Accepted}
 use Rattle.text.specs.Read.{Outcome, refused, accepted, readText, parsedOf, readOf}
 use Rattle.text.proofs.Legal.{Fitting, accepted-fits}
 use Rattle.write.specs.Lines.{textOf}
-use Rattle.write.specs.Bytes.{BytesIn, OpsBytes, ThreadsBytes, WantBytes}
+use Rattle.write.specs.Writing.{textIn}
+use Rattle.write.specs.Bytes.{BytesIn, OpsBytes, ThreadsBytes}
 use Rattle.write.proofs.Written.{write-read}
 use Rattle.write.proofs.Back.{read-write}
 
@@ -98,15 +97,12 @@ legal-fitting p b w h hb hw bytes =
       stays = t .1;
     }
 
--- what a question in memory stands for, and its text
+-- what a question in memory stands for
 abbrev pub standsFor : Question → Asked
 standsFor q = record { prog = progOf (q .program); budget = q .budget .0; want = wantedOf (q .want) }
 
-abbrev pub textIn : Question → List ℕ
-textIn q = textOf (progOf (q .program)) (q .budget .0) (wantedOf (q .want))
-
 -- FIRST: every text that is accepted, read and written again, is the same text
-told-accepted : (o : Outcome) → parsedOf o .verdict ≡ Accepted → (a : Asked) × (o ≡ accepted a) × (parsedOf o .question ≡ questionOf a)
+pub told-accepted : (o : Outcome) → parsedOf o .verdict ≡ Accepted → (a : Asked) × (o ≡ accepted a) × (parsedOf o .question ≡ questionOf a)
 unfolding parsedOf
 told-accepted (refused k n) e = let z : _≡_ {A = ℕ} 0 1 = cc in absurd (omega arith)
 told-accepted (accepted a) e = (a, refl, refl)

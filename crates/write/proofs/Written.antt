@@ -1,8 +1,8 @@
 -- FIRST ROUND TRIP: every text that is accepted is the text of what was read. Assumes nothing.
-use Prim.Native.Nat.{ℕ, _+_, _≤_}
+use Prim.Native.Nat.{ℕ, _+_}
 use mathlib.Core.Path.{_≡_, refl, ap, sym, _∙_}
 use mathlib.Core.Bool.{Bool, true, false}
-use mathlib.Core.Option.{Option, none, some}
+use mathlib.Core.Option.{none}
 use mathlib.Core.List.{List, [], _∷_, _++_, map, map-append, append-assoc, append-nil}
 use native.Mathlib.Omega.{arith}
 use borrow.Author.Tests.{eqb-true}
@@ -10,21 +10,19 @@ use lib.Dec.{eqb}
 use lib.ListN.{length, length-append}
 use Rattle.names.specs.Names.{pick, threads, locations, mostRuns}
 use Rattle.program.specs.declared.Op.{Op}
-use Rattle.program.specs.Program.{Prog, Wanted}
 use Rattle.number.specs.Decimal.{decimal}
-use Rattle.line.specs.declared.Field.the-variants as field
 use Rattle.line.specs.Split.{split, lineFeed}
 use Rattle.line.specs.Line.{numberLine}
 use Rattle.line.specs.Join.{join}
 use Rattle.line.proofs.Join.{join-split}
 use Rattle.line.proofs.Lines.{number-line-is}
 use Rattle.words.specs.Op.{opText}
-use Rattle.words.specs.Want.{wantLine, wantText}
+use Rattle.words.specs.Want.{wantLine}
 use Rattle.words.proofs.Op.{op-is}
 use Rattle.words.proofs.Want.{want-is}
 use Rattle.question.specs.Question.{Asked}
 use Rattle.question.specs.Past.{past, firstThread}
-use Rattle.text.specs.Read.{Head, So, nothing, threaded, located, budgeted, wanting, inside, Step, fault, next, step, threadsKey, locsKey, budgetKey, threadKey, threadLine, Outcome, refused, accepted, askedOf, onPast, end, onStep, readParts, readText}
+use Rattle.text.specs.Read.{Head, So, nothing, threaded, located, budgeted, wanting, inside, next, step, threadsKey, locsKey, budgetKey, threadKey, threadLine, refused, accepted, askedOf, onPast, end, readParts, readText}
 use Rattle.text.proofs.Keeps.{on-number, on-want, on-turn, Goes, joins, opens, on-body}
 use Rattle.text.proofs.Legal.{on-step, past-fits, text-parts}
 use Rattle.write.specs.Lines.{threadLines, headLines, linesOf, unlines, textOf}

@@ -8,9 +8,6 @@ use Rattle.line.proofs.Fields.{add-shape, add-limit, add-limit-two, add
 use borrow.Author.Needs.{needs}
 use Rattle.line.proofs.added.Statement.{statement}
 use Rattle.line.proofs.added.Tie as tie
-use Rattle.line.proofs.added.Reads as reads
-use Rattle.line.proofs.added.Lts as lts
-use Rattle.line.proofs.none.Reads as none-reads
 
 enum-told : tie.Need-enum-told
 enum-told c = search needs

@@ -4,8 +4,6 @@ use Rattle.line.specs.Line.{boundedOf}
 use borrow.Author.Needs.{needs}
 use Rattle.line.proofs.bounded.Statement.{statement}
 use Rattle.line.proofs.bounded.Tie as tie
-use Rattle.line.proofs.bounded.Reads as reads
-use Rattle.line.proofs.bounded.Lts as lts
 
 enum-told : tie.Need-enum-told
 enum-told c = search needs

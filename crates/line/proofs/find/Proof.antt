@@ -7,8 +7,6 @@ use Rattle.line.specs.Split.{before}
 use Rattle.line.proofs.Turn.{before-here, before-on, before-end}
 use Rattle.line.proofs.find.Statement.{statement}
 use Rattle.line.proofs.find.Tie as tie
-use Rattle.line.proofs.find.Reads as reads
-use Rattle.line.proofs.find.Lts as lts
 
 abbrev Inv-loop : tie.InvT-loop
 Inv-loop s a b i₀ i = (i ≤ length s) × (i + length (before b (drop i s)) ≡ a + length (before b (drop a s)))

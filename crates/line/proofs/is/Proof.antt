@@ -4,9 +4,6 @@ use Rattle.line.proofs.Turn.{equal-not, equal-begins}
 use borrow.Author.Needs.{needs}
 use Rattle.line.proofs.is.Statement.{statement}
 use Rattle.line.proofs.is.Tie as tie
-use Rattle.line.proofs.is.Reads as reads
-use Rattle.line.proofs.is.Lts as lts
-use Rattle.line.proofs.starts.Reads as starts-reads
 
 returns : tie.Need-returns
 returns c = sym (equal-not _ _ (c .if1 .taken))

@@ -6,10 +6,6 @@ use Rattle.line.proofs.Lines.{bounded-capped}
 use borrow.Author.Needs.{needs}
 use Rattle.line.proofs.number_in.Statement.{statement}
 use Rattle.line.proofs.number_in.Tie as tie
-use Rattle.line.proofs.number_in.Reads as reads
-use Rattle.line.proofs.number_in.Lts as lts
-use Rattle.line.proofs.bounded.Reads as bounded-reads
-use Rattle.number.proofs.read_number.Reads as read-number-reads
 
 read-number-requires : tie.Need-read-number-requires
 read-number-requires c κs = search needs

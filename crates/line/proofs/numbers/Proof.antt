@@ -4,24 +4,17 @@ use borrow.Author.Needs.{needs}
 use native.Mathlib.Omega.{arith}
 use mathlib.Core.Path.{_≡_, refl, sym, _∙_, ap, subst}
 use mathlib.Core.List.{List, [], _∷_}
-use Prim.Native.Nat.{ℕ, _≤_, _<_, _-_, _+_}
+use Prim.Native.Nat.{ℕ, _≤_, _-_, _+_}
 use lib.ListN.{length, take, drop, getD}
 use Rattle.tables.specs.Tables.{padded}
 use Rattle.number.specs.Decimal.{numberOf}
 use Rattle.line.specs.Split.{split, comma}
 use Rattle.line.specs.Line.{within}
-use Rattle.line.specs.Fields.{Judged, shape, fine, extend, fieldsFrom, fieldsOf, rangesFrom, rangesOf, packed, Long, IsByte}
+use Rattle.line.specs.Fields.{Judged, fine, extend, fieldsFrom, fieldsOf, rangesFrom, rangesOf, packed, Long, IsByte}
 use Rattle.line.proofs.Split.{split-at-more, split-at-last, split-at-end}
 use Rattle.line.proofs.Fields.{fields-start, fields-many, fields-few, fields-all, fields-one, long-more, within-byte}
 use Rattle.line.proofs.numbers.Statement.{statement}
 use Rattle.line.proofs.numbers.Tie as tie
-use Rattle.line.proofs.numbers.Reads as reads
-use Rattle.line.proofs.numbers.Lts as lts
-use Rattle.line.proofs.added.Reads as added-reads
-use Rattle.line.proofs.find.Reads as find-reads
-use Rattle.line.proofs.none.Reads as none-reads
-use Rattle.line.proofs.number_in.Reads as number-in-reads
-use Rattle.line.proofs.wide.Reads as wide-reads
 
 abbrev Inv-loop : tie.InvT-loop
 Inv-loop part n least most v₀ a₀ k₀ v a k =

@@ -1,18 +1,12 @@
 -- `line::put_number_line` meets its contract: its three pieces stand one behind the other. Assumes nothing.
 use native.Mathlib.Omega.{arith}
-use mathlib.Core.Path.{_≡_, refl, sym, _∙_, ap}
-use mathlib.Core.List.{List, [], _∷_, _++_}
-use Prim.Native.Nat.{ℕ, _≤_, _<_, _-_, _+_}
-use lib.ListN.{length, length-append}
+use mathlib.Core.List.{[], _∷_, _++_}
+use lib.ListN.{length-append}
 use Rattle.number.specs.Decimal.{decimal}
 use Rattle.number.proofs.Put.{put-three}
 use borrow.Author.Needs.{needs}
 use Rattle.line.proofs.put_number_line.Statement.{statement}
 use Rattle.line.proofs.put_number_line.Tie as tie
-use Rattle.line.proofs.put_number_line.Reads as reads
-use Rattle.line.proofs.put_number_line.Lts as lts
-use Rattle.number.proofs.put_number.Reads as put-number-reads
-use Rattle.number.proofs.put_bytes.Reads as put-bytes-reads
 
 put-bytes-requires : tie.Need-put-bytes-requires
 put-bytes-requires c κs =

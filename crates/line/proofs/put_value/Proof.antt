@@ -1,16 +1,12 @@
 -- `line::put_value` meets its contract. Assumes nothing.
 use native.Mathlib.Omega.{arith}
-use mathlib.Core.Path.{_≡_, refl, sym, _∙_, ap}
-use mathlib.Core.List.{List, [], _∷_}
+use mathlib.Core.Path.{_∙_}
+use mathlib.Core.List.{[], _∷_}
 use Rattle.number.specs.Decimal.{decimal}
 use Rattle.number.proofs.Put.{put-then}
 use borrow.Author.Needs.{needs}
 use Rattle.line.proofs.put_value.Statement.{statement}
 use Rattle.line.proofs.put_value.Tie as tie
-use Rattle.line.proofs.put_value.Reads as reads
-use Rattle.line.proofs.put_value.Lts as lts
-use Rattle.number.proofs.put_number.Reads as put-number-reads
-use Rattle.number.proofs.put_bytes.Reads as put-bytes-reads
 
 slice-aggregate-put-bytes : tie.Need-slice-aggregate-put-bytes
 slice-aggregate-put-bytes c = search needs

@@ -3,10 +3,9 @@
 use borrow.Author.Needs.{needs}
 use native.Mathlib.Omega.{arith}
 use mathlib.Core.Path.{_≡_, refl, sym, _∙_, ap}
-use mathlib.Core.List.{List, [], _∷_, _++_}
-use Prim.Native.Nat.{ℕ, _≤_, _<_, _-_, _+_}
-use lib.ListN.{length, take, drop, getD, drop-of-length-le, length-append}
-use lib.Seq.{length-take-le}
+use mathlib.Core.List.{List, _∷_}
+use Prim.Native.Nat.{ℕ, _≤_, _-_, _+_}
+use lib.ListN.{length, take, drop, getD, length-append}
 use Rattle.number.specs.Decimal.{decimal}
 use Rattle.number.specs.Put.{put}
 use Rattle.number.proofs.Put.{put-nil, put-then}
@@ -14,10 +13,6 @@ use Rattle.line.specs.Join.{commaed}
 use Rattle.line.proofs.Join.{commaed-next, commaed-length, commaed-end}
 use Rattle.line.proofs.put_values.Statement.{statement}
 use Rattle.line.proofs.put_values.Tie as tie
-use Rattle.line.proofs.put_values.Reads as reads
-use Rattle.line.proofs.put_values.Lts as lts
-use Rattle.line.proofs.put_value.Reads as put-value-reads
-use Rattle.line.proofs.wide.Reads as wide-reads
 
 abbrev Inv-loop : tie.InvT-loop
 Inv-loop buf₀ at k n vals e₀ i₀ buf e i =

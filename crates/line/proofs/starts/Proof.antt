@@ -1,14 +1,12 @@
 -- `line::starts` meets its contract. The loop's invariant: what is left of s begins with what is left of w if s begins with w. Assumes nothing.
 use native.Mathlib.Omega.{arith}
 use mathlib.Core.Path.{_≡_, refl, sym, _∙_}
-use Prim.Native.Nat.{_≤_, _-_, _+_}
+use Prim.Native.Nat.{_≤_, _-_}
 use lib.ListN.{length, drop}
 use Rattle.line.specs.Split.{begins}
 use Rattle.line.proofs.Turn.{begins-end, begins-short, begins-not, begins-on}
 use Rattle.line.proofs.starts.Statement.{statement}
 use Rattle.line.proofs.starts.Tie as tie
-use Rattle.line.proofs.starts.Reads as reads
-use Rattle.line.proofs.starts.Lts as lts
 
 abbrev Inv-loop : tie.InvT-loop
 Inv-loop w s i₀ i = (i ≤ length w) × (begins (drop i w) (drop i s) ≡ begins w s)

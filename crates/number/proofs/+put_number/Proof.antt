@@ -1,8 +1,6 @@
 -- `number::put_number` meets its contract. The measure is n. Assumes nothing.
 use native.Mathlib.Omega.{arith}
-use borrow.Author.Needs.{needs}
-use mathlib.Core.Path.{_≡_, refl, sym, _∙_, ap}
-use lib.ListN.{length, length-set}
+use lib.ListN.{length-set}
 use Rattle.number.proofs.Laws.{decimal-small-length, decimal-large-length}
 use Rattle.number.proofs.Write.{write-small, write-large}
 use Prim.Native.Nat.{ℕ, _<_}

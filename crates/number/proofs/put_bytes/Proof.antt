@@ -3,15 +3,13 @@
 use native.Mathlib.Omega.{arith}
 use native.Mathlib.Nat.{add-zero}
 use mathlib.Core.Path.{_≡_, refl, sym, _∙_, ap}
-use mathlib.Core.List.{List, []}
-use Prim.Native.Nat.{ℕ, _≤_, _<_, _-_, _+_}
+use mathlib.Core.List.{[]}
+use Prim.Native.Nat.{_≤_, _-_, _+_}
 use lib.ListN.{length, drop, length-drop, length-set, drop-of-length-le}
 use Rattle.number.specs.Put.{put}
 use Rattle.number.proofs.Put.{put-nil, put-byte}
 use Rattle.number.proofs.put_bytes.Statement.{statement}
 use Rattle.number.proofs.put_bytes.Tie as tie
-use Rattle.number.proofs.put_bytes.Reads as reads
-use Rattle.number.proofs.put_bytes.Lts as lts
 
 abbrev Inv-loop : tie.InvT-loop
 Inv-loop buf₀ at w i₀ buf i =

@@ -6,9 +6,6 @@ use Rattle.number.specs.Capped.{capped}
 use Rattle.number.proofs.Laws.{number-none, number-one, number-zero, number-several}
 use Rattle.number.proofs.read_number.Statement.{statement}
 use Rattle.number.proofs.read_number.Tie as tie
-use Rattle.number.proofs.read_number.Reads as reads
-use Rattle.number.proofs.read_number.Lts as lts
-use Rattle.number.proofs.run.Reads as run-reads
 
 returns : tie.Need-returns
 unfolding capped

@@ -1,8 +1,7 @@
 -- `number::run` meets its contract. The loop's invariant: what is left to read, read on from v, is what the whole is. Assumes nothing.
-use borrow.Author.Needs.{needs}
 use native.Mathlib.Omega.{arith}
 use mathlib.Core.Path.{_≡_, refl, sym, _∙_, ap}
-use Prim.Native.Nat.{ℕ, _≤_, _<_, _-_, _+_, _*_}
+use Prim.Native.Nat.{_≤_, _<_, _-_, _+_, _*_}
 use lib.ListN.{length, getD, drop, drop-of-length-le}
 use mathlib.Core.Logic.{⊎-elim}
 use mathlib.Core.List.{[]}
@@ -13,8 +12,6 @@ use Rattle.number.specs.Capped.{capped, largest}
 use Rattle.number.proofs.Turn.{turn, turn-low, turn-high, over}
 use Rattle.number.proofs.run.Statement.{statement}
 use Rattle.number.proofs.run.Tie as tie
-use Rattle.number.proofs.run.Reads as reads
-use Rattle.number.proofs.run.Lts as lts
 
 abbrev Inv-loop : tie.InvT-loop
 Inv-loop part v₀ i₀ v i = (i ≤ length part) × (v ≤ 10000000009) × (capped (reading v (drop i part)) ≡ capped (reading 0 part))

@@ -1,15 +1,12 @@
 -- `number::zero_from` meets its contract. The loop's invariant: with zeros put from i on, the buffer is what it is to be. Assumes nothing.
 use native.Mathlib.Omega.{arith}
 use mathlib.Core.Path.{_≡_, refl, sym, _∙_, ap}
-use mathlib.Core.List.{List, [], _∷_, _++_}
-use Prim.Native.Nat.{ℕ, _≤_, _<_, _-_, _+_}
+use Prim.Native.Nat.{ℕ, _≤_, _-_}
 use lib.ListN.{length, replicate, length-set}
 use Rattle.number.specs.Put.{put}
 use Rattle.number.proofs.Put.{put-nil, put-zero, put-zeros}
 use Rattle.number.proofs.zero_from.Statement.{statement}
 use Rattle.number.proofs.zero_from.Tie as tie
-use Rattle.number.proofs.zero_from.Reads as reads
-use Rattle.number.proofs.zero_from.Lts as lts
 
 abbrev Inv-loop : tie.InvT-loop
 Inv-loop buf₀ at i₀ buf i =

@@ -11,16 +11,12 @@ use Rattle.tables.proofs.Rows.{length-mapped}
 use Rattle.program.specs.Program.{progOf, opIn, mostOps}
 use Rattle.program.specs.Kept.{Sized}
 use Rattle.program.specs.declared.Op.{Op}
-use Rattle.program.specs.declared.Cell.{Cell}
 use Rattle.program.proofs.Tests.{Within, within}
 use Rattle.program.proofs.Threads.{threads-length}
 use Rattle.question.specs.Past.{pastIn, past, firstThread, jumpOf}
 use Rattle.question.proofs.Walk.{past-stop, past-on, past-end}
 use Rattle.question.proofs.first_past.Statement.{statement}
 use Rattle.question.proofs.first_past.Tie as tie
-use Rattle.question.proofs.first_past.Reads as reads
-use Rattle.question.proofs.first_past.Lts as lts
-use Rattle.question.proofs.past_in.Reads as past-in-reads
 
 abbrev Inv-loop : tie.InvT-loop
 Inv-loop cells counts threads line₀ t₀ line t =

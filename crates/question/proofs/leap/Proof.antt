@@ -3,8 +3,6 @@ use Rattle.question.specs.Past.{leaps}
 use borrow.Author.Needs.{needs}
 use Rattle.question.proofs.leap.Statement.{statement}
 use Rattle.question.proofs.leap.Tie as tie
-use Rattle.question.proofs.leap.Reads as reads
-use Rattle.question.proofs.leap.Lts as lts
 
 enum-told : tie.Need-enum-told
 enum-told c = search needs

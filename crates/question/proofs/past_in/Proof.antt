@@ -11,9 +11,6 @@ use Rattle.question.specs.Past.{pastIn, jumpOf}
 use Rattle.question.proofs.Walk.{leap-stop, leap-on, leap-end}
 use Rattle.question.proofs.past_in.Statement.{statement}
 use Rattle.question.proofs.past_in.Tie as tie
-use Rattle.question.proofs.past_in.Reads as reads
-use Rattle.question.proofs.past_in.Lts as lts
-use Rattle.question.proofs.leap.Reads as leap-reads
 
 abbrev Inv-loop : tie.InvT-loop
 Inv-loop t n line cells k₀ at₀ k at = (k ≤ n) × (at ≡ line + k) × (pastIn at (drop k (opsOf cells t n)) ≡ pastIn line (opsOf cells t n))

@@ -4,6 +4,7 @@ use mathlib.Core.Path.{_≡_, _∙_, ap}
 use Prim.Native.Nat.{ℕ, _≤_}
 use lib.ListN.{length, replicate}
 use Rattle.report.specs.Response.{lentOf, responseOf}
+use Rattle.tables.proofs.Packed.{padded-length}
 use Rattle.report.proofs.Back.{front-zeros}
 use Rattle.report.proofs.Answers.{response-long, lent-few}
 use borrow.Author.Needs.{needs}
@@ -32,11 +33,13 @@ returns c =
     let r = c .before .before .before .before .before .before .before .before .respond-in in
     let n : length (u .out .now) ≡ 32768 = search needs in
     let t = responseOf (lentOf (length (u .room .now))) (u .text .now) in
-    let h : length t ≤ 32768 = omega (arith, response-long (lentOf (length (u .room .now))) (u .text .now) (lent-few (length (u .room .now)))) in (
+    let h : length t ≤ 32768 = omega (arith, response-long (lentOf (length (u .room .now))) (u .text .now) (lent-few (length (u .room .now)))) in
+    let printed = c .zero-from .ensures ∙ front-zeros (u .out .now) (r .last .1 .1 .0) t (r .result) 32768 (r .ensures .1) (r .ensures .0) n h in
+    let long = ap length printed ∙ padded-length 32768 0 t h in (
       r .ensures .0,
       (
-        c .zero-from .ensures ∙ front-zeros (u .out .now) (r .last .1 .1 .0) t (r .result) 32768 (r .ensures .1) (r .ensures .0) n h,
-        c .before .before .before .before .clear .ensures ∙ ap (λ (k : ℕ). replicate k 0) (r .kept .1 .0),
+        printed,
+        (c .before .before .before .before .clear .ensures ∙ ap (λ (k : ℕ). replicate k 0) (r .kept .1 .0), omega (arith, r .ensures .0, h, long)),
       ),
     )
 

@@ -10,8 +10,6 @@ use Rattle.spell.specs.Coded.{IsCoded}
 use borrow.Author.Needs.{needs}
 use Rattle.spell.proofs.encode.Statement.{statement}
 use Rattle.spell.proofs.encode.Tie as tie
-use Rattle.spell.proofs.encode.Reads as reads
-use Rattle.spell.proofs.encode.Lts as lts
 
 enum-known-o : tie.Need-enum-known-o
 enum-known-o c = search needs

@@ -1,24 +1,14 @@
 -- `spell::put_op` meets its contract: its three pieces stand one behind the other. Assumes nothing.
 use native.Mathlib.Omega.{arith}
-use mathlib.Core.Path.{_≡_, refl, sym, _∙_, ap}
-use mathlib.Core.List.{List, [], _∷_, _++_}
-use Prim.Native.Nat.{ℕ, _+_, _≤_}
-use lib.ListN.{length, take}
+use mathlib.Core.Path.{_≡_, sym, ap}
+use lib.ListN.{length}
 use lib.Seq.{length-take-le}
-use Rattle.number.specs.Put.{put}
-use Rattle.words.specs.Words.{word, kindIs, operands}
-use Rattle.words.specs.Op.{opKey, opText}
-use Rattle.number.proofs.Put.{put-three}
+use Rattle.words.specs.Words.{word}
 use Rattle.line.specs.Join.{commaed}
-use Rattle.spell.proofs.Pieces.{op-pieces, op-length}
+use Rattle.spell.proofs.Pieces.{op-length, op-put}
 use borrow.Author.Needs.{needs}
 use Rattle.spell.proofs.put_op.Statement.{statement}
 use Rattle.spell.proofs.put_op.Tie as tie
-use Rattle.spell.proofs.put_op.Reads as reads
-use Rattle.spell.proofs.put_op.Lts as lts
-use Rattle.spell.proofs.encode.Reads as encode-reads
-use Rattle.number.proofs.put_bytes.Reads as put-bytes-reads
-use Rattle.line.proofs.put_values.Reads as put-values-reads
 
 encode-requires : tie.Need-encode-requires
 encode-requires c κs = search needs
@@ -80,15 +70,8 @@ returns c =
     let p = c .before .before .before .before .before .before .before .before .before .before .before .before .put-bytes in
     let q = c .before .before .before .before .before .before .before .put-bytes2 in
     let v = c .before .before .put-values in
-    let w = word (kindIs (a .o)) in
-    let o = commaed (operands (a .o)) in
-    let x : length (take (e .result .width) (e .result .word)) ≡ length w = ap length (e .ensures .word-is) in
-    let y : length (commaed (take (e .result .count) (e .result .vals))) ≡ length o = ap (λ l. length (commaed l)) (e .ensures .vals-are) in
-    let t = put-three (a .buf .now) (p .last .0) (q .last .0) (v .last .0) (a .at) (p .result) (q .result) (v .result) (111 ∷ 112 ∷ 61 ∷ []) w o
-    (omega (arith, ap length (op-pieces (a .o)), s .pre)) (p .ensures .1) (p .ensures .0)
-    (q .ensures .1 ∙ ap (put (p .last .0) (p .result)) (e .ensures .word-is)) (omega (arith, q .ensures .0, x))
-    (v .ensures .1 ∙ ap (λ l. put (q .last .0) (q .result) (commaed l)) (e .ensures .vals-are)) (omega (arith, v .ensures .0, y)) in
-    rw (op-pieces (a .o)) t
+    op-put (a .o) (e .result) (e .ensures) (a .buf .now) (p .last .0) (q .last .0) (v .last .0) (a .at) (p .result) (q .result) (v .result) (s .pre)
+    (p .ensures .1) (p .ensures .0) (q .ensures .1) (q .ensures .0) (v .ensures .1) (v .ensures .0)
 
 pub put-op-spec : {M : Type 1} → statement M
 put-op-spec =

@@ -1,18 +1,13 @@
 -- `spell::put_op_line` meets its contract. Assumes nothing.
 use native.Mathlib.Omega.{arith}
-use mathlib.Core.Path.{_≡_, refl, sym, _∙_, ap}
-use mathlib.Core.List.{List, [], _∷_, _++_}
-use Prim.Native.Nat.{ℕ, _≤_, _<_, _-_, _+_}
-use lib.ListN.{length, length-append}
+use mathlib.Core.Path.{_∙_}
+use mathlib.Core.List.{[], _∷_}
+use lib.ListN.{length-append}
 use Rattle.words.specs.Op.{opText}
 use Rattle.number.proofs.Put.{put-then}
 use borrow.Author.Needs.{needs}
 use Rattle.spell.proofs.put_op_line.Statement.{statement}
 use Rattle.spell.proofs.put_op_line.Tie as tie
-use Rattle.spell.proofs.put_op_line.Reads as reads
-use Rattle.spell.proofs.put_op_line.Lts as lts
-use Rattle.number.proofs.put_bytes.Reads as put-bytes-reads
-use Rattle.spell.proofs.put_op.Reads as put-op-reads
 
 put-op-requires : tie.Need-put-op-requires
 put-op-requires c κs = omega (arith, length-append (opText (c .before .before .args .o)) (10 ∷ []))

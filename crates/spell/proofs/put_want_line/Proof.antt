@@ -9,10 +9,6 @@ use Rattle.spell.proofs.Pieces.{wanted-all, want-pieces}
 use borrow.Author.Needs.{needs}
 use Rattle.spell.proofs.put_want_line.Statement.{statement}
 use Rattle.spell.proofs.put_want_line.Tie as tie
-use Rattle.spell.proofs.put_want_line.Reads as reads
-use Rattle.spell.proofs.put_want_line.Lts as lts
-use Rattle.number.proofs.put_bytes.Reads as put-bytes-reads
-use Rattle.spell.proofs.put_wanted.Reads as put-wanted-reads
 
 slice-aggregate-put-bytes : tie.Need-slice-aggregate-put-bytes
 slice-aggregate-put-bytes c = search needs

@@ -14,12 +14,6 @@ use Rattle.spell.proofs.Pieces.{pieces-length}
 use borrow.Author.Needs.{needs}
 use Rattle.spell.proofs.put_wanted.Statement.{statement}
 use Rattle.spell.proofs.put_wanted.Tie as tie
-use Rattle.spell.proofs.put_wanted.Reads as reads
-use Rattle.spell.proofs.put_wanted.Lts as lts
-use Rattle.line.proofs.put_values.Reads as put-values-reads
-use Rattle.line.proofs.wide.Reads as wide-reads
-use Rattle.number.proofs.put_bytes.Reads as put-bytes-reads
-use Rattle.number.proofs.put_number.Reads as put-number-reads
 
 array-read-wide : tie.Need-array-read-wide
 array-read-wide c = search needs

@@ -10,9 +10,11 @@ use Rattle.state.proofs.buffer_remove.Statement.{statement}
 use Rattle.state.proofs.buffer_remove.Tie as tie
 
 -- there is an entry at i, and the count is within its room
-held : (c : tie.Start) → (c .args .i < getD (c .args .t1 .buffers) (c .args .t .0) 0) × (getD (c .args .t1 .buffers) (c .args .t .0) 0 ≤ 8)
+held : (c : tie.Start) → (c .args .i < getD (c .args .buffers .now) (c .args .t .0) 0) × (getD (c .args .buffers .now) (c .args .t .0) 0 ≤ 8)
 held c =
-    (omega (arith, buffer-count (c .args .t1) (c .pre .0) (c .args .t .0) (c .pre .1 .0)), buffer-room (c .args .t1) (c .pre .0) (c .args .t .0))
+    let xs = c .args .buffered .now in
+    let ns = c .args .buffers .now in
+    (omega (arith, buffer-count xs ns (c .pre .0) (c .args .t .0) (c .pre .1 .0)), buffer-room xs ns (c .pre .0) (c .args .t .0))
 
 cast-at : tie.Need-cast-at
 cast-at c = search needs
@@ -38,17 +40,16 @@ cast-built-without c = omega (arith, held (c .before .before .before))
 built-without-requires : tie.Need-built-without-requires
 built-without-requires c κs = omega (arith, held (c .before .before .before))
 
-sub-u : tie.Need-sub-u
-sub-u c = omega (arith, held (c .before .before .before .before))
+sub-buffers : tie.Need-sub-buffers
+sub-buffers c = omega (arith, held (c .before .before .before .before))
 
-element-write-u : tie.Need-element-write-u
-element-write-u c = search needs
+element-write-buffers : tie.Need-element-write-buffers
+element-write-buffers c = search needs
 
 returns : tie.Need-returns
 returns c =
     let b = c .before .before .before .before in
-    buffer-remove-is (b .args .t1) (b .pre .0) (b .args .t .0) (b .pre .1 .0) (c .built-without .result) (b .args .i) (c .built-without .ensures)
-    (held b .0)
+    buffer-remove-is (b .args .buffered .now) (b .args .buffers .now) (b .pre .0) (b .args .t .0) (b .pre .1 .0) (c .built-without .result) (b .args .i) (c .built-without .ensures) (held b .0)
 
 pub buffer-remove-spec : {M : Type 1} → statement M
 buffer-remove-spec =
@@ -62,6 +63,6 @@ buffer-remove-spec =
     sub-built-without-2
     cast-built-without
     built-without-requires
-    sub-u
-    element-write-u
+    sub-buffers
+    element-write-buffers
     returns)

@@ -4,9 +4,6 @@ use Rattle.text.proofs.Steps.{asking-none}
 use borrow.Author.Needs.{needs}
 use Rattle.text.proofs.blank.Statement.{statement}
 use Rattle.text.proofs.blank.Tie as tie
-use Rattle.text.proofs.blank.Reads as reads
-use Rattle.text.proofs.blank.Lts as lts
-use Rattle.program.proofs.Program.empty.Reads as empty-reads
 
 empty-requires : tie.Need-empty-requires
 empty-requires c κs = search needs

@@ -6,12 +6,6 @@ use Rattle.text.proofs.Steps.{body-few, body-threads, body-op, body-las
 use borrow.Author.Needs.{needs}
 use Rattle.text.proofs.body_line.Statement.{statement}
 use Rattle.text.proofs.body_line.Tie as tie
-use Rattle.text.proofs.body_line.Reads as reads
-use Rattle.text.proofs.body_line.Lts as lts
-use Rattle.line.proofs.starts.Reads as starts-reads
-use Rattle.text.proofs.fail.Reads as fail-reads
-use Rattle.text.proofs.op_line.Reads as op-line-reads
-use Rattle.text.proofs.thread_line.Reads as thread-line-reads
 
 slice-aggregate-starts : tie.Need-slice-aggregate-starts
 slice-aggregate-starts c = search needs

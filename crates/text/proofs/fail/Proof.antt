@@ -5,9 +5,6 @@ use Rattle.text.specs.Packed.{stateOf}
 use borrow.Author.Needs.{needs}
 use Rattle.text.proofs.fail.Statement.{statement}
 use Rattle.text.proofs.fail.Tie as tie
-use Rattle.text.proofs.fail.Reads as reads
-use Rattle.text.proofs.fail.Lts as lts
-use Rattle.text.proofs.blank.Reads as blank-reads
 
 blank-requires : tie.Need-blank-requires
 blank-requires c κs = search needs

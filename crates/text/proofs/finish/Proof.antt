@@ -1,5 +1,5 @@
 -- `text::finish` meets its contract. Assumes nothing.
-use mathlib.Core.Path.{_≡_, ap, sym, subst, _∙_}
+use mathlib.Core.Path.{ap, sym, subst, _∙_}
 use native.Mathlib.Omega.{arith}
 use Rattle.text.specs.declared.State.{State}
 use Rattle.text.specs.Read.{end, parsedOf}
@@ -9,10 +9,6 @@ use Rattle.text.proofs.Ends.{end-left, end-early, end-missing, end-whol
 use borrow.Author.Needs.{needs}
 use Rattle.text.proofs.finish.Statement.{statement}
 use Rattle.text.proofs.finish.Tie as tie
-use Rattle.text.proofs.finish.Reads as reads
-use Rattle.text.proofs.finish.Lts as lts
-use Rattle.text.proofs.refuse.Reads as refuse-reads
-use Rattle.text.proofs.settle.Reads as settle-reads
 
 refuse-requires : tie.Need-refuse-requires
 refuse-requires c κs = search needs

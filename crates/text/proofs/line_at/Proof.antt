@@ -1,22 +1,12 @@
 -- `text::line_at` meets its contract: the stage says which line is next. Assumes nothing.
-use mathlib.Core.Path.{_≡_, ap, sym, subst, _∙_}
-use native.Mathlib.Omega.{arith}
-use Rattle.names.specs.Names.{locations}
-use Rattle.text.specs.Read.{So, step, inside, budgeted}
+use mathlib.Core.Path.{ap, sym, subst, _∙_}
+use Rattle.text.specs.Read.{step, inside}
 use Rattle.text.specs.Packed.{packed, packedStep, Valid}
 use Rattle.text.proofs.Steps.{first-opened, at-stage, at-body, read-as}
 use mathlib.Core.List.{[]}
 use borrow.Author.Needs.{needs}
 use Rattle.text.proofs.line_at.Statement.{statement}
 use Rattle.text.proofs.line_at.Tie as tie
-use Rattle.text.proofs.line_at.Reads as reads
-use Rattle.text.proofs.line_at.Lts as lts
-use Rattle.text.proofs.body_line.Reads as body-line-reads
-use Rattle.text.proofs.budget_line.Reads as budget-line-reads
-use Rattle.text.proofs.locs_line.Reads as locs-line-reads
-use Rattle.text.proofs.thread_line.Reads as thread-line-reads
-use Rattle.text.proofs.threads_line.Reads as threads-line-reads
-use Rattle.text.proofs.want_line.Reads as want-line-reads
 
 threads-line-requires : tie.Need-threads-line-requires
 threads-line-requires c κs = search needs

@@ -1,16 +1,10 @@
 -- `text::op_line` meets its contract. Assumes nothing.
 use mathlib.Core.Path.{ap, sym, _∙_}
-use native.Mathlib.Omega.{arith}
 use Rattle.text.specs.Packed.{packedStep}
 use Rattle.text.proofs.Steps.{body-some, body-few, op-shape, op-limit, op-ninth, op-more}
 use borrow.Author.Needs.{needs}
 use Rattle.text.proofs.op_line.Statement.{statement}
 use Rattle.text.proofs.op_line.Tie as tie
-use Rattle.text.proofs.op_line.Reads as reads
-use Rattle.text.proofs.op_line.Lts as lts
-use Rattle.program.proofs.Program.with.Reads as with-reads
-use Rattle.text.proofs.fail.Reads as fail-reads
-use Rattle.words.proofs.op_line.Reads as op-line-reads
 
 op-line-requires : tie.Need-op-line-requires
 op-line-requires c κs =

@@ -1,10 +1,8 @@
 -- `text::read` meets its contract. The loop's invariant: the lines that are left, read on from what was read, are what the whole text is.
 -- The measure is the number of bytes left. Assumes nothing.
-use borrow.Author.Needs.{needs}
 use native.Mathlib.Omega.{arith}
 use mathlib.Core.Path.{_≡_, ap, sym, _∙_}
-use mathlib.Core.List.{List}
-use Prim.Native.Nat.{ℕ, _+_, _-_, _<_, _≤_}
+use Prim.Native.Nat.{_+_, _-_, _≤_}
 use lib.ListN.{length, take, drop, length-take, length-drop}
 use Rattle.program.specs.declared.Question.{Question}
 use Rattle.line.specs.Split.{split, lineFeed}
@@ -15,13 +13,6 @@ use Rattle.text.proofs.Ends.{parts-next, parts-last, no-zero, stepped, 
 use Rattle.text.proofs.Keeps.{valid-step}
 use Rattle.text.proofs.read.Statement.{statement}
 use Rattle.text.proofs.read.Tie as tie
-use Rattle.text.proofs.read.Reads as reads
-use Rattle.text.proofs.read.Lts as lts
-use Rattle.line.proofs.find.Reads as find-reads
-use Rattle.text.proofs.blank.Reads as blank-reads
-use Rattle.text.proofs.finish.Reads as finish-reads
-use Rattle.text.proofs.line_at.Reads as line-at-reads
-use Rattle.text.proofs.refuse.Reads as refuse-reads
 
 abbrev Inv-loop : tie.InvT-loop
 Inv-loop text g₀ a₀ n₀ g a n =

@@ -6,9 +6,6 @@ use Rattle.text.specs.Read.{parsedOf}
 use borrow.Author.Needs.{needs}
 use Rattle.text.proofs.refuse.Statement.{statement}
 use Rattle.text.proofs.refuse.Tie as tie
-use Rattle.text.proofs.refuse.Reads as reads
-use Rattle.text.proofs.refuse.Lts as lts
-use Rattle.text.proofs.blank.Reads as blank-reads
 
 blank-requires : tie.Need-blank-requires
 blank-requires c κs = search needs

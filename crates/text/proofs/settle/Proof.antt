@@ -5,10 +5,6 @@ use Rattle.text.proofs.Ends.{settle-ready, settle-past, settle-fine}
 use borrow.Author.Needs.{needs}
 use Rattle.text.proofs.settle.Statement.{statement}
 use Rattle.text.proofs.settle.Tie as tie
-use Rattle.text.proofs.settle.Reads as reads
-use Rattle.text.proofs.settle.Lts as lts
-use Rattle.question.proofs.first_past.Reads as first-past-reads
-use Rattle.text.proofs.refuse.Reads as refuse-reads
 
 first-past-requires : tie.Need-first-past-requires
 first-past-requires c κs =

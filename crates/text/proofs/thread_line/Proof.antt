@@ -4,10 +4,6 @@ use Rattle.text.specs.declared.State.{State}
 use borrow.Author.Needs.{needs}
 use Rattle.text.proofs.thread_line.Statement.{statement}
 use Rattle.text.proofs.thread_line.Tie as tie
-use Rattle.text.proofs.thread_line.Reads as reads
-use Rattle.text.proofs.thread_line.Lts as lts
-use Rattle.line.proofs.number_line.Reads as number-line-reads
-use Rattle.text.proofs.fail.Reads as fail-reads
 
 slice-aggregate-number-line : tie.Need-slice-aggregate-number-line
 slice-aggregate-number-line c = search needs

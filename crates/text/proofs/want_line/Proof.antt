@@ -7,11 +7,6 @@ use Rattle.text.proofs.Steps.{want-limit, want-shape, want-read}
 use borrow.Author.Needs.{needs}
 use Rattle.text.proofs.want_line.Statement.{statement}
 use Rattle.text.proofs.want_line.Tie as tie
-use Rattle.text.proofs.want_line.Reads as reads
-use Rattle.text.proofs.want_line.Lts as lts
-use Rattle.program.proofs.Program.empty.Reads as empty-reads
-use Rattle.text.proofs.fail.Reads as fail-reads
-use Rattle.words.proofs.want_line.Reads as want-line-reads
 
 want-line-requires : tie.Need-want-line-requires
 want-line-requires c κs = search needs

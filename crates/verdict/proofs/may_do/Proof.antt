@@ -1,8 +1,10 @@
 -- `verdict::may_do` meets its contract: each arm is a clause of the definition, and the locations that it names are there, as the
 -- instruction fits. Assumes nothing.
-use mathlib.Core.Path.{sym, _∙_}
+use mathlib.Core.Path.{ap, sym, _∙_}
 use borrow.Author.Tests.{eq-eqb, ne-eqb}
-use Rattle.px86.specs.Step.{when, either, does}
+use Rattle.px86.specs.Step.{either, does}
+use Rattle.verdict.specs.Verdict.{allowedIf}
+use Rattle.verdict.proofs.Judging.{allowed-when, join-room, fenced-by}
 use borrow.Author.Needs.{needs}
 use Rattle.verdict.proofs.may_do.Statement.{statement}
 use Rattle.verdict.proofs.may_do.Tie as tie
@@ -26,24 +28,31 @@ enum-known-o : tie.Need-enum-known-o
 enum-known-o c = search needs
 
 read-requires : tie.Need-read-requires
-read-requires c κs = let b = c .before .before .before in (b .pre .0, (b .pre .1 .0, (rw (c .before .o .given .1) at (b .pre .1 .1)) .1))
+read-requires c κs =
+    let b = c .before .before .before in
+    (b .pre .0, (b .pre .1 .0, (b .pre .1 .1 .1, (rw (c .before .o .given .1) at (b .pre .1 .1 .0 .1)) .1)))
 
 may-lock-requires : tie.Need-may-lock-requires
 may-lock-requires c κs =
     let b = c .before .before .before .before .before in
-    (b .pre .0, (b .pre .1 .0, (rw (c .before .before .before .o .given .1) at (b .pre .1 .1)) .1))
+    (b .pre .0, (b .pre .1 .1 .1, (rw (c .before .before .before .o .given .1) at (b .pre .1 .1 .0 .1)) .1))
 
 enum-known-o-2 : tie.Need-enum-known-o-2
 enum-known-o-2 c = search needs
 
 may-lock-requires-2 : tie.Need-may-lock-requires-2
-may-lock-requires-2 c κs = let b = c .before .before .before in (b .pre .0, (b .pre .1 .0, (rw (c .before .o2 .given .1) at (b .pre .1 .1)) .1))
+may-lock-requires-2 c κs =
+    let b = c .before .before .before in
+    (b .pre .0, (b .pre .1 .1 .1, (rw (c .before .o2 .given .1) at (b .pre .1 .1 .0 .1)) .1))
 
 enum-told-4 : tie.Need-enum-told-4
 enum-told-4 c = search needs
 
 is-fenced-requires : tie.Need-is-fenced-requires
 is-fenced-requires c κs = search needs
+
+allowed-if-requires : tie.Need-allowed-if-requires
+allowed-if-requires c κs = search needs
 
 enum-told-5 : tie.Need-enum-told-5
 enum-told-5 c = search needs
@@ -68,11 +77,15 @@ enum-told-8 c = search needs
 
 returns : tie.Need-returns
 unfolding does
-returns c = λ p ns g. rw (c .before .enum-told .given .1) (c .buffer-room .ensures _ ns g)
+returns c =
+    let b = c .before .before .before in
+    λ p ns g. rw (c .before .enum-told .given .1) (c .buffer-room .ensures ∙ join-room _ _ (b .pre .1 .0) (b .args .t .0) (b .pre .1 .1 .1) _ _ _ ns g)
 
 returns-2 : tie.Need-returns-2
 unfolding does
-returns-2 c = λ p ns g. rw (c .before .enum-told2 .given .1) (c .buffer-room2 .ensures _ ns g)
+returns-2 c =
+    let b = c .before .before .before in
+    λ p ns g. rw (c .before .enum-told2 .given .1) (c .buffer-room2 .ensures ∙ join-room _ _ (b .pre .1 .0) (b .args .t .0) (b .pre .1 .1 .1) _ _ _ ns g)
 
 returns-3 : tie.Need-returns-3
 unfolding does
@@ -81,9 +94,10 @@ returns-3 c = λ p ns g. rw (c .enum-told3 .given .1)
 returns-4 : tie.Need-returns-4
 unfolding does either
 returns-4 c =
+    let b = c .before .before .before .before .before .before in
     λ p ns g.
     rw (c .before .before .before .before .o .given .1, eq-eqb _ _ (sym (c .before .before .read .ensures p ns g) ∙ c .before .if1 .taken))
-    (c .may-lock .ensures p _ _ ns g)
+    (c .may-lock .ensures p _ _ _ _ (b .pre .1 .0) ns g)
 
 returns-5 : tie.Need-returns-5
 unfolding does either
@@ -91,31 +105,39 @@ returns-5 c = λ p ns g. rw (c .before .before .before .o .given .1, ne-eqb _ _ 
 
 returns-6 : tie.Need-returns-6
 unfolding does
-returns-6 c = λ p ns g. rw (c .before .before .o2 .given .1) (c .may-lock2 .ensures p _ _ ns g)
+returns-6 c = λ p ns g. rw (c .before .before .o2 .given .1) (c .may-lock2 .ensures p _ _ _ _ (c .before .before .before .before .pre .1 .0) ns g)
 
 returns-7 : tie.Need-returns-7
-unfolding does when
-returns-7 c = λ p ns g. rw (c .before .before .enum-told4 .given .1, sym (c .before .is-fenced .ensures ns g) ∙ c .if2 .taken)
+unfolding does
+returns-7 c =
+    let b = c .before .before .before .before in
+    λ p ns g.
+    rw (c .before .before .enum-told4 .given .1)
+    (c .allowed-if .ensures
+    ∙ (ap allowedIf (c .before .is-fenced .ensures ∙ sym (fenced-by _ _ (b .pre .1 .0) (b .args .t .0) (b .pre .1 .1 .1) _ _ ns g))
+    ∙ allowed-when _ _))
 
 returns-8 : tie.Need-returns-8
-unfolding does when
-returns-8 c = λ p ns g. rw (c .before .before .enum-told4 .given .1, sym (c .before .is-fenced .ensures ns g) ∙ c .if2 .left)
+unfolding does
+returns-8 c =
+    let b = c .before .before .before in
+    λ p ns g. rw (c .before .enum-told5 .given .1) (c .buffer-room3 .ensures ∙ join-room _ _ (b .pre .1 .0) (b .args .t .0) (b .pre .1 .1 .1) _ _ _ ns g)
 
 returns-9 : tie.Need-returns-9
 unfolding does
-returns-9 c = λ p ns g. rw (c .before .enum-told5 .given .1) (c .buffer-room3 .ensures _ ns g)
+returns-9 c =
+    let b = c .before .before .before in
+    λ p ns g. rw (c .before .enum-told6 .given .1) (c .buffer-room4 .ensures ∙ join-room _ _ (b .pre .1 .0) (b .args .t .0) (b .pre .1 .1 .1) _ _ _ ns g)
 
 returns-10 : tie.Need-returns-10
 unfolding does
-returns-10 c = λ p ns g. rw (c .before .enum-told6 .given .1) (c .buffer-room4 .ensures _ ns g)
+returns-10 c =
+    let b = c .before .before .before in
+    λ p ns g. rw (c .before .enum-told7 .given .1) (c .buffer-room5 .ensures ∙ join-room _ _ (b .pre .1 .0) (b .args .t .0) (b .pre .1 .1 .1) _ _ _ ns g)
 
 returns-11 : tie.Need-returns-11
 unfolding does
-returns-11 c = λ p ns g. rw (c .before .enum-told7 .given .1) (c .buffer-room5 .ensures _ ns g)
-
-returns-12 : tie.Need-returns-12
-unfolding does
-returns-12 c = λ p ns g. rw (c .enum-told8 .given .1)
+returns-11 c = λ p ns g. rw (c .enum-told8 .given .1)
 
 pub may-do-spec : {M : Type 1} → statement M
 may-do-spec =
@@ -133,6 +155,7 @@ may-do-spec =
     may-lock-requires-2
     enum-told-4
     is-fenced-requires
+    allowed-if-requires
     enum-told-5
     buffer-room-requires-3
     enum-told-6
@@ -150,5 +173,4 @@ may-do-spec =
     returns-8
     returns-9
     returns-10
-    returns-11
-    returns-12)
+    returns-11)

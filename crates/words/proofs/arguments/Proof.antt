@@ -1,23 +1,16 @@
 -- `words::arguments` meets its contract. Assumes nothing.
 use native.Mathlib.Omega.{arith}
 use mathlib.Core.Path.{_≡_, refl, sym, _∙_, ap}
-use mathlib.Core.List.{List, [], _∷_}
-use Prim.Native.Nat.{ℕ, _+_, _-_}
-use lib.ListN.{length, take, drop, length-drop}
-use lib.Seq.{take-all}
+use mathlib.Core.List.{List, []}
+use Prim.Native.Nat.{ℕ, _+_}
 use Rattle.tables.specs.Tables.{padded}
 use Rattle.line.specs.Split.{split, later, comma}
 use Rattle.line.specs.Fields.{fine, fieldsFrom, fieldsOf, rangesOf, packed}
-use Rattle.line.proofs.Split.{split-at-more, split-at-last}
+use Rattle.line.proofs.Split.{part-behind, split-at-more, split-at-last}
 use Rattle.words.proofs.Made.{bare-none, bare-some}
 use borrow.Author.Needs.{needs}
 use Rattle.words.proofs.arguments.Statement.{statement}
 use Rattle.words.proofs.arguments.Tie as tie
-use Rattle.words.proofs.arguments.Reads as reads
-use Rattle.words.proofs.arguments.Lts as lts
-use Rattle.line.proofs.find.Reads as find-reads
-use Rattle.line.proofs.none.Reads as none-reads
-use Rattle.line.proofs.numbers.Reads as numbers-reads
 
 find-requires : tie.Need-find-requires
 find-requires c κs = search needs
@@ -44,9 +37,8 @@ returns c =
     let a = f .before .before .args in
     let s = a .part .now in
     let k = f .find .result + 1 in
-    let p : take (length s - k) (drop k s) ≡ drop k s = take-all (length s - k) (drop k s) (omega (arith, length-drop k s)) in
     c .numbers .ensures
-    ∙ ap packed (ap (fieldsOf (rangesOf (a .r))) p
+    ∙ ap packed (ap (fieldsOf (rangesOf (a .r))) (part-behind k s)
     ∙ ap (λ (l : List (List ℕ)). fieldsFrom (fine []) (rangesOf (a .r)) (later l))
     (sym (split-at-more comma s 0 (f .find .result) (omega arith) (f .find .ensures) (omega arith))))
 

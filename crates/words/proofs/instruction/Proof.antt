@@ -2,8 +2,6 @@
 use borrow.Author.Needs.{needs}
 use Rattle.words.proofs.instruction.Statement.{statement}
 use Rattle.words.proofs.instruction.Tie as tie
-use Rattle.words.proofs.instruction.Reads as reads
-use Rattle.words.proofs.instruction.Lts as lts
 
 enum-told : tie.Need-enum-told
 enum-told c = search needs

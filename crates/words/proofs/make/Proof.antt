@@ -1,5 +1,5 @@
 -- `words::make` meets its contract: by the state of the numbers. Assumes nothing.
-use mathlib.Core.Path.{_≡_, sym, _∙_, ap}
+use mathlib.Core.Path.{sym, _∙_, ap}
 use Prim.Native.Nat.{ℕ}
 use Rattle.line.specs.declared.Values.{Values}
 use Rattle.words.specs.Words.{made}
@@ -7,9 +7,6 @@ use Rattle.words.proofs.Made.{make-limit, make-shape, make-fine}
 use borrow.Author.Needs.{needs}
 use Rattle.words.proofs.make.Statement.{statement}
 use Rattle.words.proofs.make.Tie as tie
-use Rattle.words.proofs.make.Reads as reads
-use Rattle.words.proofs.make.Lts as lts
-use Rattle.words.proofs.instruction.Reads as instruction-reads
 
 abbrev state : Values → ℕ
 state v = v .state

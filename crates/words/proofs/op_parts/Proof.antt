@@ -14,13 +14,6 @@ use Rattle.words.proofs.Op.{op-parts}
 use borrow.Author.Needs.{needs}
 use Rattle.words.proofs.op_parts.Statement.{statement}
 use Rattle.words.proofs.op_parts.Tie as tie
-use Rattle.words.proofs.op_parts.Reads as reads
-use Rattle.words.proofs.op_parts.Lts as lts
-use Rattle.line.proofs.find.Reads as find-reads
-use Rattle.words.proofs.arguments.Reads as arguments-reads
-use Rattle.words.proofs.make.Reads as make-reads
-use Rattle.words.proofs.ranges_of.Reads as ranges-of-reads
-use Rattle.words.proofs.which.Reads as which-reads
 
 find-requires : tie.Need-find-requires
 find-requires c κs = search needs

@@ -4,8 +4,6 @@ use Rattle.line.specs.Fields.{rangesFrom}
 use borrow.Author.Needs.{needs}
 use Rattle.words.proofs.ranges_of.Statement.{statement}
 use Rattle.words.proofs.ranges_of.Tie as tie
-use Rattle.words.proofs.ranges_of.Reads as reads
-use Rattle.words.proofs.ranges_of.Lts as lts
 
 sub-l : tie.Need-sub-l
 sub-l c = search needs

@@ -5,11 +5,6 @@ use Rattle.words.proofs.Want.{want-rest-all, want-rest-one}
 use borrow.Author.Needs.{needs}
 use Rattle.words.proofs.want_rest.Statement.{statement}
 use Rattle.words.proofs.want_rest.Tie as tie
-use Rattle.words.proofs.want_rest.Reads as reads
-use Rattle.words.proofs.want_rest.Lts as lts
-use Rattle.line.proofs.is.Reads as is-reads
-use Rattle.words.proofs.want_all.Reads as want-all-reads
-use Rattle.words.proofs.want_values.Reads as want-values-reads
 
 slice-aggregate-is : tie.Need-slice-aggregate-is
 slice-aggregate-is c = search needs

@@ -6,16 +6,11 @@ use mathlib.Core.List.{List}
 use Prim.Native.Nat.{ℕ}
 use Rattle.line.specs.declared.Values.{Values}
 use Rattle.line.specs.Fields.{Range, fieldsOf, packed}
-use Rattle.words.specs.declared.WantRead.{WantRead}
 use Rattle.words.specs.Want.{wantRanges, wantBlank}
 use Rattle.words.proofs.Want.{want-ranges, want-no, want-yes, judged-count}
 use borrow.Author.Needs.{needs}
 use Rattle.words.proofs.want_values.Statement.{statement}
 use Rattle.words.proofs.want_values.Tie as tie
-use Rattle.words.proofs.want_values.Reads as reads
-use Rattle.words.proofs.want_values.Lts as lts
-use Rattle.line.proofs.numbers.Reads as numbers-reads
-use Rattle.words.proofs.want_all.Reads as want-all-reads
 
 numbers-requires : tie.Need-numbers-requires
 numbers-requires c κs = search needs

@@ -8,9 +8,6 @@ use Rattle.words.proofs.Made.{named-yes, named-no}
 use borrow.Author.Needs.{needs}
 use Rattle.words.proofs.which.Statement.{statement}
 use Rattle.words.proofs.which.Tie as tie
-use Rattle.words.proofs.which.Reads as reads
-use Rattle.words.proofs.which.Lts as lts
-use Rattle.line.proofs.is.Reads as is-reads
 
 slice-aggregate-is : tie.Need-slice-aggregate-is
 slice-aggregate-is c = search needs

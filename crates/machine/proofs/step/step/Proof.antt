@@ -1,103 +1,123 @@
 -- `machine::step::step` meets its contract: since the code is allowed it is one of the three sorts, and each branch takes the step of its
--- sort; what a step asks of every program is asked of this one. Assumes nothing.
+-- sort; what a step asks of every program is asked of one that is listed. Assumes nothing.
 use Prim.Native.Nat.{_-_, _/_, _%_, _≤_, _<_}
-use mathlib.Core.Path.{ap, sym, _∙_}
+use mathlib.Core.Path.{refl, ap, sym, _∙_}
 use mathlib.Core.List.{[]}
 use native.Mathlib.Omega.{arith}
 use lib.ListN.{getElem?}
-use Rattle.program.specs.Program.{progOf}
-use Rattle.state.specs.State.{machineOf, queueIn, bufferIn}
+use Rattle.px86.proofs.Codes.{step-thread, step-leave, step-persist}
+use Rattle.state.specs.State.{machineOf, queuesOf, buffersOf, queueOf, bufferOf, held}
+use Rattle.state.specs.declared.State.{State}
 use Rattle.verdict.specs.Verdict.{verdictOf}
 use Rattle.machine.proofs.Allowed.{persists-some}
-use Rattle.px86.proofs.Codes.{step-thread, step-leave, step-persist}
-use Rattle.machine.proofs.Codes.{from-16, from-64, below-70, leaves-same}
-use borrow.Author.Needs.{needs}
+use Rattle.machine.proofs.Codes.{from-16, from-64, below-70}
+use Rattle.machine.proofs.Going.{leaves-any}
+use Rattle.machine.proofs.Taking.{takes-tables}
 use Rattle.machine.proofs.step.step.Statement.{statement}
 use Rattle.machine.proofs.step.step.Tie as tie
+
+-- the state before the step
+abbrev state : tie.Start → State
+state b =
+    held (b .args .queued .now) (b .args .queues .now) (b .args .buffered .now) (b .args .buffers .now) (b .args .places .now) (b .args .memory .now)
 
 -- an allowed code behind those of the threads, and behind those of the buffers
 leaving : (c : tie.Else1) → 16 ≤ c .before .args .c
 leaving c =
-    let a = c .before .args in
-    from-16 (progOf (a .p)) (machineOf (a .s) []) (a .c) (c .if1 .left) (c .before .pre .1 .1 [])
+    let b = c .before in
+    let sound = b .pre .0 .0 in
+    from-16 (sound .of) (machineOf (state b) []) (b .args .c) (c .if1 .left) (b .pre .1 (sound .of) [] (sound .lists))
 
 persisting : (c : tie.Else2) → (64 ≤ c .before .before .args .c) × (c .before .before .args .c < 70)
 persisting c =
     let b = c .before .before in
-    let a = b .args in (
-      from-64 (progOf (a .p)) (machineOf (a .s) []) (a .c) (c .if2 .left) (b .pre .1 .1 []),
-      below-70 (progOf (a .p)) (machineOf (a .s) []) (a .c) (b .pre .1 .1 []),
+    let sound = b .pre .0 .0 in
+    let ok = b .pre .1 (sound .of) [] (sound .lists) in (
+      from-64 (sound .of) (machineOf (state b) []) (b .args .c) (c .if2 .left) ok,
+      below-70 (sound .of) (machineOf (state b) []) (b .args .c) ok,
     )
 
 step-thread-requires : tie.Need-step-thread-requires
 step-thread-requires c κs =
-    let b = c .before in
-    let a = b .args in (
+    let d = c .before .before .before .before .before .before in
+    let b = d .before in (
       b .pre .0,
       (
-        b .pre .1 .0,
-        (c .if1 .taken, λ g. ap verdictOf (sym (step-thread (progOf (a .p)) (machineOf (a .s) g) (a .c) (c .if1 .taken))) ∙ b .pre .1 .1 g),
+        d .if1 .taken,
+        λ p g lists. ap verdictOf (sym (step-thread p (machineOf (state b) g) (b .args .c) (d .if1 .taken))) ∙ b .pre .1 p g lists,
       ),
     )
 
 returns : tie.Need-returns
-returns c =
-    let a = c .before .before .args in
-    rw (step-thread (progOf (a .p)) (machineOf (a .s) (a .regs)) (a .c) (c .before .if1 .taken)) (c .step-thread .ensures)
+returns c = λ p lists.
+    let d = c .before .before .before .before .before .before .before in
+    let b = d .before in
+    rw (step-thread p (machineOf (state b) (b .args .regs)) (b .args .c) (d .if1 .taken)) (c .step-thread .ensures p lists)
 
-sub-t9 : tie.Need-sub-t9
-sub-t9 c = omega (arith, leaving (c .before))
+sub-t23 : tie.Need-sub-t23
+sub-t23 c = omega (arith, leaving (c .before .before .before .before .before))
 
 sub-leave : tie.Need-sub-leave
-sub-leave c = omega (arith, leaving (c .before))
+sub-leave c = omega (arith, leaving (c .before .before .before .before .before))
 
 leave-requires : tie.Need-leave-requires
 leave-requires c κs =
-    let b = c .before .before in
-    let a = b .args in
-    let t = (a .c - 16) / 8 in
-    let i = (a .c - 16) % 8 in (
-      b .pre .1 .0,
+    let d = c .before .before .before .before in
+    let b = d .before .before in
+    let s = state b in
+    let sound = b .pre .0 .0 in
+    let t = (b .args .c - 16) / 8 in
+    let i = (b .args .c - 16) % 8 in (
+      b .pre .0 .1 .queues,
       (
-        omega (arith, leaving (c .before)),
-        λ p g.
-            let m = machineOf (a .s) g in
-            ap verdictOf (leaves-same p (progOf (a .p)) m t i (getElem? (bufferIn (a .s) t) i) ∙ sym (step-leave (progOf (a .p)) m (a .c) (leaving (c .before)) (c .if2 .taken)))
-            ∙ b .pre .1 .1 g,
+        b .pre .0 .1 .buffers,
+        (
+          omega (arith, leaving (d .before), d .if2 .taken),
+          λ p vs ns g.
+              leaves-any (queuesOf (s .queued) (s .queues)) (buffersOf (s .buffered) (s .buffers)) vs (s .memory) ns (s .places) g [] p (sound .of) t i (getElem? (bufferOf (s .buffered) (s .buffers) t) i)
+              ∙ (ap verdictOf (sym (step-leave (sound .of) (machineOf s []) (b .args .c) (leaving (d .before)) (d .if2 .taken))) ∙ b .pre .1 (sound .of) [] (sound .lists)),
+        ),
       ),
     )
 
-reached-requires : tie.Need-reached-requires
-reached-requires c κs = c .leave .ensures (progOf (c .before .before .before .args .p)) .valid
-
 returns-2 : tie.Need-returns-2
-returns-2 c =
-    let d = c .before .before in
-    let a = d .before .before .args in
-    let is = step-leave (progOf (a .p)) (machineOf (a .s) (a .regs)) (a .c) (leaving (d .before)) (d .if2 .taken) in
-    rw (is, c .before .leave .ensures (progOf (a .p)) .is (a .regs)) (c .reached .ensures (a .regs))
+returns-2 c = λ p lists.
+    let d = c .before .before .before .before .before in
+    let b = d .before .before in
+    let s = state b in
+    let g = b .args .regs in
+    let sort = step-leave p (machineOf s g) (b .args .c) (leaving (d .before)) (d .if2 .taken) in
+    let is = c .leave .ensures .1 p (s .memory) (s .places) g in
+    takes-tables s (b .pre .0 .1) g _ _ _ _ _ _ _ (c .leave .ensures .0 .0) (c .leave .ensures .0 .1) refl _ sort is refl
 
-sub-t14 : tie.Need-sub-t14
-sub-t14 c = omega (arith, persisting c)
+sub-t32 : tie.Need-sub-t32
+sub-t32 c = omega (arith, persisting (c .before .before .before))
 
 persist-requires : tie.Need-persist-requires
 persist-requires c κs =
-    let b = c .before .before in
-    let a = b .args in
-    let l = a .c - 64 in
-    let m = machineOf (a .s) [] in
-    let is = step-persist (progOf (a .p)) m (a .c) (persisting c .0) (persisting c .1) in
-    (b .pre .1 .0, (omega (arith, persisting c), persists-some m l (queueIn (a .s) l) (ap verdictOf (sym is) ∙ b .pre .1 .1 [])))
-
-reached-requires-2 : tie.Need-reached-requires-2
-reached-requires-2 c κs = search needs
+    let d = c .before .before .before in
+    let b = d .before .before in
+    let s = state b in
+    let sound = b .pre .0 .0 in
+    let l = b .args .c - 64 in
+    let m = machineOf s [] in
+    let is = step-persist (sound .of) m (b .args .c) (persisting d .0) (persisting d .1) in (
+      b .pre .0 .1 .queues,
+      (
+        omega (arith, persisting d),
+        persists-some m l (queueOf (s .queued) (s .queues) l) (ap verdictOf (sym is) ∙ b .pre .1 (sound .of) [] (sound .lists)),
+      ),
+    )
 
 returns-3 : tie.Need-returns-3
-returns-3 c =
-    let d = c .before .before in
-    let a = d .before .before .args in
-    let is = step-persist (progOf (a .p)) (machineOf (a .s) (a .regs)) (a .c) (persisting d .0) (persisting d .1) in
-    rw (is, c .before .persist .ensures .is (a .regs)) (c .reached2 .ensures (a .regs))
+returns-3 c = λ p lists.
+    let d = c .before .before .before .before in
+    let b = d .before .before in
+    let s = state b in
+    let g = b .args .regs in
+    let sort = step-persist p (machineOf s g) (b .args .c) (persisting d .0) (persisting d .1) in
+    let is = c .persist .ensures .1 .1 (buffersOf (s .buffered) (s .buffers)) (s .places) g in
+    takes-tables s (b .pre .0 .1) g _ _ _ _ _ _ _ (c .persist .ensures .0) (b .pre .0 .1 .buffers) (c .persist .ensures .1 .0) _ sort is refl
 
 pub step-spec : {M : Type 1} → statement M
 step-spec =
@@ -105,12 +125,10 @@ step-spec =
     (tie.spec
     step-thread-requires
     returns
-    sub-t9
+    sub-t23
     sub-leave
     leave-requires
-    reached-requires
     returns-2
-    sub-t14
+    sub-t32
     persist-requires
-    reached-requires-2
     returns-3)

@@ -1,14 +1,17 @@
 use mathlib.Core.Path.{_≡_, refl, sym, _∙_}
+use mathlib.Core.List.{_++_, _∷_, []}
 use lib.ListN.{length, take, length-set}
+use native.Mathlib.Omega.{arith}
+use borrow.Author.Needs.{needs}
+use Prim.Native.Nat.{_+_, _-_, _*_, _≤_}
+use Rattle.px86.specs.Runs.{codes, work}
+use Rattle.px86.specs.Ask.{Tally}
+use Rattle.state.specs.State.{machineOf, held}
+use Rattle.walk.specs.Found.{Holds}
+use Rattle.walk.specs.Walk.{asked}
 use Rattle.walk.proofs.Passed.{allowed-below, first-allowed}
 use Rattle.walk.proofs.Holding.{is-going}
-use Rattle.walk.proofs.Cycling.{visited, stopped, passed, filled, turned, has-work, walks-on, falls-on, path-on, path-back, path-room}
-use Prim.Native.Nat.{_+_, _-_, _*_}
-use Rattle.program.specs.Program.{progOf}
-use Rattle.px86.specs.Runs.{codes, work}
-use Rattle.state.specs.State.{machineOf}
-use borrow.Author.Needs.{needs}
-use native.Mathlib.Omega.{arith}
+use Rattle.walk.proofs.Cycling.{Between, at-first, stopped, passed, filled, taken, visited, has-work, walks-on, falls-on, comes-to, arrived, asked-locs, path-on, path-back}
 use Prim.Native.Nat.{ℕ, _<_}
 use borrow.Fn.Kinds.{In}
 use borrow.Fn.PlainCycle.{Measures, is, falls, and}
@@ -27,25 +30,47 @@ use Rattle.walk.proofs.note.note.Reads as note-reads
 use Rattle.walk.proofs.cycle.+try_from+visit.{statement}
 use Rattle.walk.proofs.cycle.+try_from+visit.Tie.{close}
 
-abbrev μ-try-from : Measures 2 try-from-kinds.ps ℕ
-μ-try-from κs a = work (progOf (a .0)) (machineOf (a .1 .1 .0) (a .1 .1 .1 .0)) * 72 + (codes - a .1 .1 .1 .1 .0)
+abbrev μ-try-from : Measures 3 try-from-kinds.ps ℕ
+μ-try-from κs a = work (asked (a .1 .0) (a .0 .now)) (machineOf (held (a .1 .1 .0 .now) (a .1 .1 .1 .0 .now) (a .1 .1 .1 .1 .0 .now) (a .1 .1 .1 .1 .1 .0 .now) (a .1 .1 .1 .1 .1 .1 .0 .now) (a .1 .1 .1 .1 .1 .1 .1 .0 .now)) (a .1 .1 .1 .1 .1 .1 .1 .1 .0)) * 72 + (codes - (a .1 .1 .1 .1 .1 .1 .1 .1 .1 .0)) + 1
 
-abbrev μ-visit : Measures 2 visit-kinds.ps ℕ
-μ-visit κs a = work (progOf (a .0)) (machineOf (a .1 .1 .0) (a .1 .1 .1 .0)) * 72 + 71
+abbrev μ-visit : Measures 3 visit-kinds.ps ℕ
+μ-visit κs a = work (asked (a .1 .0) (a .0 .now)) (machineOf (held (a .1 .1 .0 .now) (a .1 .1 .1 .0 .now) (a .1 .1 .1 .1 .0 .now) (a .1 .1 .1 .1 .1 .0 .now) (a .1 .1 .1 .1 .1 .1 .0 .now) (a .1 .1 .1 .1 .1 .1 .1 .0 .now)) (a .1 .1 .1 .1 .1 .1 .1 .1 .0)) * 72 + (codes - (a .1 .1 .1 .1 .1 .1 .1 .1 .1 .0))
 
-abbrev try-from-at : ℕ → In 2 try-from-kinds.ps
-try-from-at t = and 2 try-from-kinds.ps (is 2 try-from-kinds.ps μ-try-from t) try-from.Pre
+abbrev try-from-at : ℕ → In 3 try-from-kinds.ps
+try-from-at t = and 3 try-from-kinds.ps (is 3 try-from-kinds.ps μ-try-from t) try-from.Pre
 
-abbrev try-from-below : ℕ → In 2 try-from-kinds.ps
+abbrev try-from-below : ℕ → In 3 try-from-kinds.ps
 try-from-below t =
-    and 2 try-from-kinds.ps (falls 2 try-from-kinds.ps _<_ μ-try-from t) try-from.Pre
+    and 3 try-from-kinds.ps (falls 3 try-from-kinds.ps _<_ μ-try-from t) try-from.Pre
 
-abbrev visit-at : ℕ → In 2 visit-kinds.ps
-visit-at t = and 2 visit-kinds.ps (is 2 visit-kinds.ps μ-visit t) visit.Pre
+abbrev visit-at : ℕ → In 3 visit-kinds.ps
+visit-at t = and 3 visit-kinds.ps (is 3 visit-kinds.ps μ-visit t) visit.Pre
 
-abbrev visit-below : ℕ → In 2 visit-kinds.ps
-visit-below t = and 2 visit-kinds.ps (falls 2 visit-kinds.ps _<_ μ-visit t) visit.Pre
+abbrev visit-below : ℕ → In 3 visit-kinds.ps
+visit-below t = and 3 visit-kinds.ps (falls 3 visit-kinds.ps _<_ μ-visit t) visit.Pre
 
+abbrev try-from-Inv-loop : try-from-lts.InvT-loop
+try-from-Inv-loop list q queued queues buffered buffers places memory g c d path₀ out₀ v₀ k₀ path out v k =
+    ((a : Tally) → Holds q v₀ out₀ a → Between list q (held queued queues buffered buffers places memory) g (take d path₀) a c k v out)
+    × (take d path ≡ take d path₀) × (length path ≡ length path₀) × (length out ≡ length out₀) × (k ≤ codes) × (c ≤ k)
+
+abbrev try-from-μ-loop : try-from-lts.MeasureT-loop
+try-from-μ-loop list q queued queues buffered buffers places memory g c d path₀ out₀ v₀ k₀ path out v k = codes - k
+
+-- src/cycle.rt:127:5
+try-from-loop-holds : (t : ℕ) → try-from-lts.Need-loop-holds (
+  is-going-reads.Asked,
+  is-going-reads.Learnt,
+  next-from-reads.Asked,
+  next-from-reads.Learnt,
+  filled-reads.Asked,
+  filled-reads.Learnt,
+  visit-below t,
+  visit.Post,
+) (try-from-at t) try-from.Post try-from-Inv-loop try-from-μ-loop
+try-from-loop-holds t c = (λ a h. at-first _ _ _ _ (c .before .before .pre .1 .0) _ a _ _ _ h, refl, refl, refl, c .before .before .pre .1 .1 .1, omega arith)
+
+-- src/cycle.rt:129:12
 try-from-is-going-requires : (t : ℕ) → try-from-lts.Need-is-going-requires (
   is-going-reads.Asked,
   is-going-reads.Learnt,
@@ -53,318 +78,12 @@ try-from-is-going-requires : (t : ℕ) → try-from-lts.Need-is-going-requires (
   next-from-reads.Learnt,
   filled-reads.Asked,
   filled-reads.Learnt,
-  step-reads.Asked,
-  step-reads.Learnt,
-  loaded-reads.Asked,
-  loaded-reads.Learnt,
   visit-below t,
   visit.Post,
-  try-from-below t,
-  try-from.Post,
-) (try-from-at t) try-from.Post
-try-from-is-going-requires t c κs = search needs
+) (try-from-at t) try-from.Post try-from-Inv-loop try-from-μ-loop
+try-from-is-going-requires t c κs = tt
 
-try-from-returns : (t : ℕ) → try-from-lts.Need-returns (
-  is-going-reads.Asked,
-  is-going-reads.Learnt,
-  next-from-reads.Asked,
-  next-from-reads.Learnt,
-  filled-reads.Asked,
-  filled-reads.Learnt,
-  step-reads.Asked,
-  step-reads.Learnt,
-  loaded-reads.Asked,
-  loaded-reads.Learnt,
-  visit-below t,
-  visit.Post,
-  try-from-below t,
-  try-from.Post,
-) (try-from-at t) try-from.Post
-try-from-returns t c =
-    let x = c .before .before .before .before in
-    let u = x .args in
-    (λ a h. stopped (u .p) (u .q) (u .s) (u .g) (x .pre .1 .0) (take (u .d) (u .path .now)) a (u .w) (u .out .now) h (sym (c .before .is-going .ensures) ∙ c .if1 .left) (u .c), refl)
-
-try-from-next-from-requires : (t : ℕ) → try-from-lts.Need-next-from-requires (
-  is-going-reads.Asked,
-  is-going-reads.Learnt,
-  next-from-reads.Asked,
-  next-from-reads.Learnt,
-  filled-reads.Asked,
-  filled-reads.Learnt,
-  step-reads.Asked,
-  step-reads.Learnt,
-  loaded-reads.Asked,
-  loaded-reads.Learnt,
-  visit-below t,
-  visit.Post,
-  try-from-below t,
-  try-from.Post,
-) (try-from-at t) try-from.Post
-try-from-next-from-requires t c κs =
-    let x = c .before .before .before .before in
-    let u = x .args in
-    (x .pre .1 .0 .legal, (x .pre .1 .0 .state, x .pre .1 .1 .1))
-
-try-from-enum-told : (t : ℕ) → try-from-lts.Need-enum-told (
-  is-going-reads.Asked,
-  is-going-reads.Learnt,
-  next-from-reads.Asked,
-  next-from-reads.Learnt,
-  filled-reads.Asked,
-  filled-reads.Learnt,
-  step-reads.Asked,
-  step-reads.Learnt,
-  loaded-reads.Asked,
-  loaded-reads.Learnt,
-  visit-below t,
-  visit.Post,
-  try-from-below t,
-  try-from.Post,
-) (try-from-at t) try-from.Post
-try-from-enum-told t c = search needs
-
-try-from-enum-told-2 : (t : ℕ) → try-from-lts.Need-enum-told-2 (
-  is-going-reads.Asked,
-  is-going-reads.Learnt,
-  next-from-reads.Asked,
-  next-from-reads.Learnt,
-  filled-reads.Asked,
-  filled-reads.Learnt,
-  step-reads.Asked,
-  step-reads.Learnt,
-  loaded-reads.Asked,
-  loaded-reads.Learnt,
-  visit-below t,
-  visit.Post,
-  try-from-below t,
-  try-from.Post,
-) (try-from-at t) try-from.Post
-try-from-enum-told-2 t c = search needs
-
-try-from-filled-requires : (t : ℕ) → try-from-lts.Need-filled-requires (
-  is-going-reads.Asked,
-  is-going-reads.Learnt,
-  next-from-reads.Asked,
-  next-from-reads.Learnt,
-  filled-reads.Asked,
-  filled-reads.Learnt,
-  step-reads.Asked,
-  step-reads.Learnt,
-  loaded-reads.Asked,
-  loaded-reads.Learnt,
-  visit-below t,
-  visit.Post,
-  try-from-below t,
-  try-from.Post,
-) (try-from-at t) try-from.Post
-try-from-filled-requires t c κs = search needs
-
-try-from-enum-told-3 : (t : ℕ) → try-from-lts.Need-enum-told-3 (
-  is-going-reads.Asked,
-  is-going-reads.Learnt,
-  next-from-reads.Asked,
-  next-from-reads.Learnt,
-  filled-reads.Asked,
-  filled-reads.Learnt,
-  step-reads.Asked,
-  step-reads.Learnt,
-  loaded-reads.Asked,
-  loaded-reads.Learnt,
-  visit-below t,
-  visit.Post,
-  try-from-below t,
-  try-from.Post,
-) (try-from-at t) try-from.Post
-try-from-enum-told-3 t c = search needs
-
-try-from-slice-write-path : (t : ℕ) → try-from-lts.Need-slice-write-path (
-  is-going-reads.Asked,
-  is-going-reads.Learnt,
-  next-from-reads.Asked,
-  next-from-reads.Learnt,
-  filled-reads.Asked,
-  filled-reads.Learnt,
-  step-reads.Asked,
-  step-reads.Learnt,
-  loaded-reads.Asked,
-  loaded-reads.Learnt,
-  visit-below t,
-  visit.Post,
-  try-from-below t,
-  try-from.Post,
-) (try-from-at t) try-from.Post
-try-from-slice-write-path t c =
-    let x = c .before .before .before .before .before .before .before in
-    let u = x .args in
-    omega (arith, x .pre .1 .1 .0, has-work (u .p) (u .q) (u .s) (u .g) (x .pre .1 .0) (u .c) _ (c .before .before .next-from .ensures) (c .enum-told3 .given .1))
-
-try-from-step-requires : (t : ℕ) → try-from-lts.Need-step-requires (
-  is-going-reads.Asked,
-  is-going-reads.Learnt,
-  next-from-reads.Asked,
-  next-from-reads.Learnt,
-  filled-reads.Asked,
-  filled-reads.Learnt,
-  step-reads.Asked,
-  step-reads.Learnt,
-  loaded-reads.Asked,
-  loaded-reads.Learnt,
-  visit-below t,
-  visit.Post,
-  try-from-below t,
-  try-from.Post,
-) (try-from-at t) try-from.Post
-try-from-step-requires t c κs =
-    let x = c .before .before .before .before .before .before .before in
-    let u = x .args in
-    (x .pre .1 .0 .legal, (x .pre .1 .0 .state, first-allowed _ _ _ _ (c .before .before .next-from .ensures) (c .enum-told3 .given .1)))
-
-try-from-loaded-requires : (t : ℕ) → try-from-lts.Need-loaded-requires (
-  is-going-reads.Asked,
-  is-going-reads.Learnt,
-  next-from-reads.Asked,
-  next-from-reads.Learnt,
-  filled-reads.Asked,
-  filled-reads.Learnt,
-  step-reads.Asked,
-  step-reads.Learnt,
-  loaded-reads.Asked,
-  loaded-reads.Learnt,
-  visit-below t,
-  visit.Post,
-  try-from-below t,
-  try-from.Post,
-) (try-from-at t) try-from.Post
-try-from-loaded-requires t c κs = c .before .step .ensures .load-in
-
-try-from-add-visit : (t : ℕ) → try-from-lts.Need-add-visit (
-  is-going-reads.Asked,
-  is-going-reads.Learnt,
-  next-from-reads.Asked,
-  next-from-reads.Learnt,
-  filled-reads.Asked,
-  filled-reads.Learnt,
-  step-reads.Asked,
-  step-reads.Learnt,
-  loaded-reads.Asked,
-  loaded-reads.Learnt,
-  visit-below t,
-  visit.Post,
-  try-from-below t,
-  try-from.Post,
-) (try-from-at t) try-from.Post
-try-from-add-visit t c =
-    let x = c .before .before .before .before .before .before .before .before .before .before in
-    let u = x .args in
-    omega (arith, x .pre .1 .1 .0, has-work (u .p) (u .q) (u .s) (u .g) (x .pre .1 .0) (u .c) _ (c .before .before .before .before .before .next-from .ensures) (c .before .before .before .enum-told3 .given .1), x .good .1 .1 .1 .1 .1 .1 .1 .0 .0)
-
-try-from-visit-requires : (t : ℕ) → try-from-lts.Need-visit-requires (
-  is-going-reads.Asked,
-  is-going-reads.Learnt,
-  next-from-reads.Asked,
-  next-from-reads.Learnt,
-  filled-reads.Asked,
-  filled-reads.Learnt,
-  step-reads.Asked,
-  step-reads.Learnt,
-  loaded-reads.Asked,
-  loaded-reads.Learnt,
-  visit-below t,
-  visit.Post,
-  try-from-below t,
-  try-from.Post,
-) (try-from-at t) try-from.Post
-try-from-visit-requires t c κs =
-    let x = c .before .before .before .before .before .before .before .before .before .before .before .before in
-    let u = x .args in
-    let less = falls-on (u .p) (u .q) (u .s) (u .g) (x .pre .1 .0) _ _ (c .before .before .before .before .step .ensures) _ (c .before .before .loaded .ensures) in
-    (omega (arith, x .pre .0, less), (walks-on (u .p) (u .q) (u .s) (u .g) (x .pre .1 .0) _ _ (c .before .before .before .before .step .ensures) _ (c .before .before .loaded .ensures), simp length-set (omega (arith, x .pre .1 .1 .0, less))))
-
-try-from-add-try-from : (t : ℕ) → try-from-lts.Need-add-try-from (
-  is-going-reads.Asked,
-  is-going-reads.Learnt,
-  next-from-reads.Asked,
-  next-from-reads.Learnt,
-  filled-reads.Asked,
-  filled-reads.Learnt,
-  step-reads.Asked,
-  step-reads.Learnt,
-  loaded-reads.Asked,
-  loaded-reads.Learnt,
-  visit-below t,
-  visit.Post,
-  try-from-below t,
-  try-from.Post,
-) (try-from-at t) try-from.Post
-try-from-add-try-from t c = omega (arith, allowed-below _ _ _ _ (c .before .before .before .before .before .before .before .before .before .before .before .before .next-from .ensures) (c .before .before .before .before .before .before .before .before .before .before .enum-told3 .given .1))
-
-try-from-try-from-requires : (t : ℕ) → try-from-lts.Need-try-from-requires (
-  is-going-reads.Asked,
-  is-going-reads.Learnt,
-  next-from-reads.Asked,
-  next-from-reads.Learnt,
-  filled-reads.Asked,
-  filled-reads.Learnt,
-  step-reads.Asked,
-  step-reads.Learnt,
-  loaded-reads.Asked,
-  loaded-reads.Learnt,
-  visit-below t,
-  visit.Post,
-  try-from-below t,
-  try-from.Post,
-) (try-from-at t) try-from.Post
-try-from-try-from-requires t c κs =
-    let x = c .before .before .before .before .before .before .before .before .before .before .before .before .before .before .before .before .before .before .before in
-    let u = x .args in
-    let below = allowed-below _ _ _ _ (c .before .before .before .before .before .before .before .before .before .before .before .before .before .before .next-from .ensures) (c .before .before .before .before .before .before .before .before .before .before .before .before .enum-told3 .given .1) in
-    let from = c .before .before .before .before .before .before .before .before .before .before .before .before .before .before .next-from .ensures .upto .from in
-    let kept : length (c .before .before .before .before .before .before .visit .last .1 .1 .1 .1 .1 .1 .0) ≡ length (u .path .now) = c .before .before .before .before .before .before .visit .kept .1 .1 .1 .1 .1 .1 .0 ∙ simp length-set in
-    (omega (arith, x .pre .0, below, from), (x .pre .1 .0, (omega (arith, x .pre .1 .1 .0, kept), omega (arith, below))))
-
-try-from-returns-2 : (t : ℕ) → try-from-lts.Need-returns-2 (
-  is-going-reads.Asked,
-  is-going-reads.Learnt,
-  next-from-reads.Asked,
-  next-from-reads.Learnt,
-  filled-reads.Asked,
-  filled-reads.Learnt,
-  step-reads.Asked,
-  step-reads.Learnt,
-  loaded-reads.Asked,
-  loaded-reads.Learnt,
-  visit-below t,
-  visit.Post,
-  try-from-below t,
-  try-from.Post,
-) (try-from-at t) try-from.Post
-try-from-returns-2 t c =
-    let x = c .before .before .before .before .before .before .before in
-    let u = x .args in
-    (λ a h. passed (u .p) (u .q) (u .s) (u .g) (x .pre .1 .0) (take (u .d) (u .path .now)) a (u .c) _ (c .before .before .next-from .ensures) (u .w) (u .out .now) h (c .enum-told .given .1), refl)
-
-try-from-returns-3 : (t : ℕ) → try-from-lts.Need-returns-3 (
-  is-going-reads.Asked,
-  is-going-reads.Learnt,
-  next-from-reads.Asked,
-  next-from-reads.Learnt,
-  filled-reads.Asked,
-  filled-reads.Learnt,
-  step-reads.Asked,
-  step-reads.Learnt,
-  loaded-reads.Asked,
-  loaded-reads.Learnt,
-  visit-below t,
-  visit.Post,
-  try-from-below t,
-  try-from.Post,
-) (try-from-at t) try-from.Post
-try-from-returns-3 t c =
-    let x = c .before .before .before .before .before .before .before .before in
-    let u = x .args in
-    (λ a h. filled (u .p) (u .q) (u .s) (u .g) (x .pre .1 .0) (take (u .d) (u .path .now)) a (u .c) _ (c .before .before .before .next-from .ensures) (u .w) (u .out .now) h (is-going _ (sym (c .before .before .before .before .before .is-going .ensures) ∙ c .before .before .before .before .if1 .taken)) (c .filled .result) (c .filled .ensures) (c .before .enum-told2 .given .1), refl)
-
+-- src/cycle.rt:130:13
 try-from-same-length : (t : ℕ) → try-from-lts.Need-same-length (
   is-going-reads.Asked,
   is-going-reads.Learnt,
@@ -372,17 +91,12 @@ try-from-same-length : (t : ℕ) → try-from-lts.Need-same-length (
   next-from-reads.Learnt,
   filled-reads.Asked,
   filled-reads.Learnt,
-  step-reads.Asked,
-  step-reads.Learnt,
-  loaded-reads.Asked,
-  loaded-reads.Learnt,
   visit-below t,
   visit.Post,
-  try-from-below t,
-  try-from.Post,
-) (try-from-at t) try-from.Post
-try-from-same-length t c = c .before .before .before .before .try-from .kept .1 .1 .1 .1 .1 .1 .1 .0 ∙ c .before .before .before .before .before .before .before .before .before .before .before .visit .kept .1 .1 .1 .1 .1 .1 .0 ∙ simp length-set
+) (try-from-at t) try-from.Post try-from-Inv-loop try-from-μ-loop
+try-from-same-length t c = c .before .before .loop .inv .2
 
+-- src/cycle.rt:130:13
 try-from-same-length-2 : (t : ℕ) → try-from-lts.Need-same-length-2 (
   is-going-reads.Asked,
   is-going-reads.Learnt,
@@ -390,91 +104,398 @@ try-from-same-length-2 : (t : ℕ) → try-from-lts.Need-same-length-2 (
   next-from-reads.Learnt,
   filled-reads.Asked,
   filled-reads.Learnt,
-  step-reads.Asked,
-  step-reads.Learnt,
-  loaded-reads.Asked,
-  loaded-reads.Learnt,
   visit-below t,
   visit.Post,
-  try-from-below t,
-  try-from.Post,
-) (try-from-at t) try-from.Post
-try-from-same-length-2 t c = c .before .before .before .before .try-from .kept .1 .1 .1 .1 .1 .1 .1 .1 .0 ∙ c .before .before .before .before .before .before .before .before .before .before .before .visit .kept .1 .1 .1 .1 .1 .1 .1 .0
+) (try-from-at t) try-from.Post try-from-Inv-loop try-from-μ-loop
+try-from-same-length-2 t c = c .before .before .loop .inv .3
 
-try-from-returns-4 : (t : ℕ) → try-from-lts.Need-returns-4 (
+-- src/cycle.rt:130:13
+try-from-returns : (t : ℕ) → try-from-lts.Need-returns (
   is-going-reads.Asked,
   is-going-reads.Learnt,
   next-from-reads.Asked,
   next-from-reads.Learnt,
   filled-reads.Asked,
   filled-reads.Learnt,
+  visit-below t,
+  visit.Post,
+) (try-from-at t) try-from.Post try-from-Inv-loop try-from-μ-loop
+try-from-returns t c =
+    let l = c .before .before in
+    let x = l .before .before .before in
+    (λ a h. stopped _ _ _ _ (x .pre .1 .0) _ a _ _ _ _ (l .loop .inv .0 a h) (sym (c .before .is-going .ensures) ∙ c .if1 .left), l .loop .inv .1)
+
+-- src/cycle.rt:132:13
+try-from-next-from-requires : (t : ℕ) → try-from-lts.Need-next-from-requires (
+  is-going-reads.Asked,
+  is-going-reads.Learnt,
+  next-from-reads.Asked,
+  next-from-reads.Learnt,
+  filled-reads.Asked,
+  filled-reads.Learnt,
+  visit-below t,
+  visit.Post,
+) (try-from-at t) try-from.Post try-from-Inv-loop try-from-μ-loop
+try-from-next-from-requires t c κs =
+    let l = c .before .before in
+    let x = l .before .before .before in
+    ((x .pre .1 .0 .sound, x .pre .1 .0 .state), (x .pre .1 .0 .few, x .pre .1 .0 .beyond, l .loop .inv .4))
+
+-- src/cycle.rt:147:17
+try-from-enum-told : (t : ℕ) → try-from-lts.Need-enum-told (
+  is-going-reads.Asked,
+  is-going-reads.Learnt,
+  next-from-reads.Asked,
+  next-from-reads.Learnt,
+  filled-reads.Asked,
+  filled-reads.Learnt,
+  visit-below t,
+  visit.Post,
+) (try-from-at t) try-from.Post try-from-Inv-loop try-from-μ-loop
+try-from-enum-told t c = search needs
+
+-- src/cycle.rt:147:17
+try-from-same-length-3 : (t : ℕ) → try-from-lts.Need-same-length-3 (
+  is-going-reads.Asked,
+  is-going-reads.Learnt,
+  next-from-reads.Asked,
+  next-from-reads.Learnt,
+  filled-reads.Asked,
+  filled-reads.Learnt,
+  visit-below t,
+  visit.Post,
+) (try-from-at t) try-from.Post try-from-Inv-loop try-from-μ-loop
+try-from-same-length-3 t c = c .before .before .before .before .before .loop .inv .2
+
+-- src/cycle.rt:147:17
+try-from-same-length-4 : (t : ℕ) → try-from-lts.Need-same-length-4 (
+  is-going-reads.Asked,
+  is-going-reads.Learnt,
+  next-from-reads.Asked,
+  next-from-reads.Learnt,
+  filled-reads.Asked,
+  filled-reads.Learnt,
+  visit-below t,
+  visit.Post,
+) (try-from-at t) try-from.Post try-from-Inv-loop try-from-μ-loop
+try-from-same-length-4 t c = c .before .before .before .before .before .loop .inv .3
+
+-- src/cycle.rt:147:17
+try-from-returns-2 : (t : ℕ) → try-from-lts.Need-returns-2 (
+  is-going-reads.Asked,
+  is-going-reads.Learnt,
+  next-from-reads.Asked,
+  next-from-reads.Learnt,
+  filled-reads.Asked,
+  filled-reads.Learnt,
+  visit-below t,
+  visit.Post,
+) (try-from-at t) try-from.Post try-from-Inv-loop try-from-μ-loop
+try-from-returns-2 t c =
+    let l = c .before .before .before .before .before in
+    let x = l .before .before .before in
+    (λ a h. passed _ _ _ _ (x .pre .1 .0) _ a _ _ _ _ (l .loop .inv .0 a h) _ (c .before .before .next-from .ensures) (c .enum-told .given .1), l .loop .inv .1)
+
+-- src/cycle.rt:150:17
+try-from-enum-told-2 : (t : ℕ) → try-from-lts.Need-enum-told-2 (
+  is-going-reads.Asked,
+  is-going-reads.Learnt,
+  next-from-reads.Asked,
+  next-from-reads.Learnt,
+  filled-reads.Asked,
+  filled-reads.Learnt,
+  visit-below t,
+  visit.Post,
+) (try-from-at t) try-from.Post try-from-Inv-loop try-from-μ-loop
+try-from-enum-told-2 t c = search needs
+
+-- src/cycle.rt:150:17
+try-from-filled-requires : (t : ℕ) → try-from-lts.Need-filled-requires (
+  is-going-reads.Asked,
+  is-going-reads.Learnt,
+  next-from-reads.Asked,
+  next-from-reads.Learnt,
+  filled-reads.Asked,
+  filled-reads.Learnt,
+  visit-below t,
+  visit.Post,
+) (try-from-at t) try-from.Post try-from-Inv-loop try-from-μ-loop
+try-from-filled-requires t c κs = tt
+
+-- src/cycle.rt:150:17
+try-from-same-length-5 : (t : ℕ) → try-from-lts.Need-same-length-5 (
+  is-going-reads.Asked,
+  is-going-reads.Learnt,
+  next-from-reads.Asked,
+  next-from-reads.Learnt,
+  filled-reads.Asked,
+  filled-reads.Learnt,
+  visit-below t,
+  visit.Post,
+) (try-from-at t) try-from.Post try-from-Inv-loop try-from-μ-loop
+try-from-same-length-5 t c = c .before .before .before .before .before .before .loop .inv .2
+
+-- src/cycle.rt:150:17
+try-from-same-length-6 : (t : ℕ) → try-from-lts.Need-same-length-6 (
+  is-going-reads.Asked,
+  is-going-reads.Learnt,
+  next-from-reads.Asked,
+  next-from-reads.Learnt,
+  filled-reads.Asked,
+  filled-reads.Learnt,
+  visit-below t,
+  visit.Post,
+) (try-from-at t) try-from.Post try-from-Inv-loop try-from-μ-loop
+try-from-same-length-6 t c = c .before .before .before .before .before .before .loop .inv .3
+
+-- src/cycle.rt:150:17
+try-from-returns-3 : (t : ℕ) → try-from-lts.Need-returns-3 (
+  is-going-reads.Asked,
+  is-going-reads.Learnt,
+  next-from-reads.Asked,
+  next-from-reads.Learnt,
+  filled-reads.Asked,
+  filled-reads.Learnt,
+  visit-below t,
+  visit.Post,
+) (try-from-at t) try-from.Post try-from-Inv-loop try-from-μ-loop
+try-from-returns-3 t c =
+    let l = c .before .before .before .before .before .before in
+    let x = l .before .before .before in
+    let going = is-going _ (sym (c .before .before .before .before .before .is-going .ensures) ∙ c .before .before .before .before .if1 .taken) in
+    (λ a h. filled _ _ _ _ (x .pre .1 .0) _ a _ _ _ _ (l .loop .inv .0 a h) _ (c .before .before .before .next-from .ensures) going (c .filled .result) (c .filled .ensures) (c .before .enum-told2 .given .1), l .loop .inv .1)
+
+-- src/cycle.rt:166:21
+try-from-enum-told-3 : (t : ℕ) → try-from-lts.Need-enum-told-3 (
+  is-going-reads.Asked,
+  is-going-reads.Learnt,
+  next-from-reads.Asked,
+  next-from-reads.Learnt,
+  filled-reads.Asked,
+  filled-reads.Learnt,
+  visit-below t,
+  visit.Post,
+) (try-from-at t) try-from.Post try-from-Inv-loop try-from-μ-loop
+try-from-enum-told-3 t c = search needs
+
+-- src/cycle.rt:153:17
+try-from-visit-requires : (t : ℕ) → try-from-lts.Need-visit-requires (
+  is-going-reads.Asked,
+  is-going-reads.Learnt,
+  next-from-reads.Asked,
+  next-from-reads.Learnt,
+  filled-reads.Asked,
+  filled-reads.Learnt,
+  visit-below t,
+  visit.Post,
+) (try-from-at t) try-from.Post try-from-Inv-loop try-from-μ-loop
+try-from-visit-requires t c κs =
+    let l = c .before .before .before .before .before .before .before in
+    let x = l .before .before .before in
+    let first = c .before .before .before .before .next-from .ensures in
+    let yes′ = c .before .before .enum-told3 .given .1 in
+    let below = allowed-below _ _ _ _ first yes′ in
+    (omega (arith, x .pre .0, below, first .upto .from, l .loop .inv .5), (x .pre .1 .0, (first-allowed _ _ _ _ first yes′, (omega (arith, x .pre .1 .1 .0, l .loop .inv .2), omega (arith, below)))))
+
+-- src/cycle.rt:169:17
+try-from-add-k : (t : ℕ) → try-from-lts.Need-add-k (
+  is-going-reads.Asked,
+  is-going-reads.Learnt,
+  next-from-reads.Asked,
+  next-from-reads.Learnt,
+  filled-reads.Asked,
+  filled-reads.Learnt,
+  visit-below t,
+  visit.Post,
+) (try-from-at t) try-from.Post try-from-Inv-loop try-from-μ-loop
+try-from-add-k t c =
+    let first = c .before .before .before .before .before .before .before .before .before .next-from .ensures in
+    omega (arith, allowed-below _ _ _ _ first (c .before .before .before .before .before .before .before .enum-told3 .given .1))
+
+-- src/cycle.rt:127:5
+try-from-loop-less : (t : ℕ) → try-from-lts.Need-loop-less (
+  is-going-reads.Asked,
+  is-going-reads.Learnt,
+  next-from-reads.Asked,
+  next-from-reads.Learnt,
+  filled-reads.Asked,
+  filled-reads.Learnt,
+  visit-below t,
+  visit.Post,
+) (try-from-at t) try-from.Post try-from-Inv-loop try-from-μ-loop
+try-from-loop-less t c =
+    let first = c .before .before .before .before .before .before .before .before .before .next-from .ensures in
+    omega (arith, allowed-below _ _ _ _ first (c .before .before .before .before .before .before .before .enum-told3 .given .1), first .upto .from)
+
+-- src/cycle.rt:127:5
+try-from-loop-again : (t : ℕ) → try-from-lts.Need-loop-again (
+  is-going-reads.Asked,
+  is-going-reads.Learnt,
+  next-from-reads.Asked,
+  next-from-reads.Learnt,
+  filled-reads.Asked,
+  filled-reads.Learnt,
+  visit-below t,
+  visit.Post,
+) (try-from-at t) try-from.Post try-from-Inv-loop try-from-μ-loop
+try-from-loop-again t c =
+    let l = c .before .before .before .before .before .before .before .before .before .before .before .before in
+    let x = l .before .before .before in
+    let first = c .before .before .before .before .before .before .before .before .before .next-from .ensures in
+    let yes′ = c .before .before .before .before .before .before .before .enum-told3 .given .1 in
+    let v = c .before .before .before .before in
+    (λ a h. taken _ _ _ _ (x .pre .1 .0) _ a _ _ _ _ (l .loop .inv .0 a h) _ first yes′ _ _ _ (l .loop .inv .1) (v .visit .ensures .0), v .visit .ensures .1 ∙ l .loop .inv .1, v .visit .kept .1 .1 .1 .1 .1 .1 .1 .1 .1 .1 .1 .1 .0 ∙ l .loop .inv .2, v .visit .kept .1 .1 .1 .1 .1 .1 .1 .1 .1 .1 .1 .1 .1 .0 ∙ l .loop .inv .3, omega (arith, allowed-below _ _ _ _ first yes′), omega (arith, l .loop .inv .5, first .upto .from))
+
+-- src/cycle.rt:71:9
+visit-step-requires : (t : ℕ) → visit-lts.Need-step-requires (
   step-reads.Asked,
   step-reads.Learnt,
   loaded-reads.Asked,
   loaded-reads.Learnt,
-  visit-below t,
-  visit.Post,
+  note-reads.Asked,
+  note-reads.Learnt,
   try-from-below t,
   try-from.Post,
-) (try-from-at t) try-from.Post
-try-from-returns-4 t c =
-    let x = c .before .before .before .before .before .before .before .before .before .before .before .before .before .before .before .before .before .before .before .before .before .before .before .before in
-    let u = x .args in
-    let first = c .before .before .before .before .before .before .before .before .before .before .before .before .before .before .before .before .before .before .before .next-from .ensures in
-    let ok = c .before .before .before .before .before .before .before .before .before .before .before .before .before .before .before .before .before .enum-told3 .given .1 in
-    let room = path-room (u .p) (u .q) (u .s) (u .g) (x .pre .1 .0) (u .c) _ first ok (u .d) (u .path .now) (x .pre .1 .1 .0) in
-    let back = path-back (u .path .now) _ (u .d) _ room (c .before .before .before .before .before .before .before .before .before .before .before .visit .ensures .1) in
-    (λ a h. turned (u .p) (u .q) (u .s) (u .g) (x .pre .1 .0) (take (u .d) (u .path .now)) a (u .c) _ first _ (c .before .before .before .before .before .before .before .before .before .before .before .before .before .before .before .before .step .ensures) _ (c .before .before .before .before .before .before .before .before .before .before .before .before .before .before .loaded .ensures) ok _ _ _ _ _ _ (path-on (u .path .now) (u .d) _ room) back (c .before .before .before .before .before .before .before .before .before .before .before .visit .ensures .0 a h) (c .before .before .before .before .try-from .ensures .0), c .before .before .before .before .try-from .ensures .1 ∙ back)
+) (visit-at t) visit.Post
+visit-step-requires t c κs =
+    let x = c .before .before .before .before .before .before .before .before .before .before .before .before .before .before in
+    ((x .pre .1 .0 .sound, x .pre .1 .0 .state), x .pre .1 .1 .0)
 
+-- src/cycle.rt:82:9
+visit-loaded-requires : (t : ℕ) → visit-lts.Need-loaded-requires (
+  step-reads.Asked,
+  step-reads.Learnt,
+  loaded-reads.Asked,
+  loaded-reads.Learnt,
+  note-reads.Asked,
+  note-reads.Learnt,
+  try-from-below t,
+  try-from.Post,
+) (visit-at t) visit.Post
+visit-loaded-requires t c κs = c .step .ensures _ (c .before .before .before .before .before .before .before .before .before .before .before .before .before .before .before .pre .1 .0 .lists) .load-in
+
+-- src/cycle.rt:83:5
+visit-slice-write-path : (t : ℕ) → visit-lts.Need-slice-write-path (
+  step-reads.Asked,
+  step-reads.Learnt,
+  loaded-reads.Asked,
+  loaded-reads.Learnt,
+  note-reads.Asked,
+  note-reads.Learnt,
+  try-from-below t,
+  try-from.Post,
+) (visit-at t) visit.Post
+visit-slice-write-path t c =
+    let x = c .before .before .before .before .before .before .before .before .before .before .before .before .before .before .before .before in
+    omega (arith, x .pre .1 .1 .1 .0, has-work _ _ _ _ (x .pre .1 .0) _ (x .pre .1 .1 .0 _ _ (x .pre .1 .0 .lists)))
+
+-- src/cycle.rt:84:38
+visit-add-note : (t : ℕ) → visit-lts.Need-add-note (
+  step-reads.Asked,
+  step-reads.Learnt,
+  loaded-reads.Asked,
+  loaded-reads.Learnt,
+  note-reads.Asked,
+  note-reads.Learnt,
+  try-from-below t,
+  try-from.Post,
+) (visit-at t) visit.Post
+visit-add-note t c =
+    let x = c .before .before .before .before .before .before .before .before .before .before .before .before .before .before .before .before .before in
+    omega (arith, x .pre .1 .1 .1 .0, has-work _ _ _ _ (x .pre .1 .0) _ (x .pre .1 .1 .0 _ _ (x .pre .1 .0 .lists)), x .good .1 .1 .1 .1 .1 .1 .1 .1 .1 .1 .1 .1 .0 .0)
+
+-- src/cycle.rt:84:9
 visit-note-requires : (t : ℕ) → visit-lts.Need-note-requires (
+  step-reads.Asked,
+  step-reads.Learnt,
+  loaded-reads.Asked,
+  loaded-reads.Learnt,
   note-reads.Asked,
   note-reads.Learnt,
   try-from-below t,
   try-from.Post,
 ) (visit-at t) visit.Post
 visit-note-requires t c κs =
-    let x = c .before .before .before .before .before in
-    let u = x .args in
-    (x .pre .1 .0 .asks, omega (arith, x .pre .1 .1))
+    let x = c .before .before .before .before .before .before .before .before .before .before .before .before .before .before .before .before .before .before in
+    (x .pre .1 .0 .asks, simp length-set (omega (arith, x .pre .1 .1 .1 .0, has-work _ _ _ _ (x .pre .1 .0) _ (x .pre .1 .1 .0 _ _ (x .pre .1 .0 .lists)))))
 
+-- src/cycle.rt:96:9
+visit-add-try-from : (t : ℕ) → visit-lts.Need-add-try-from (
+  step-reads.Asked,
+  step-reads.Learnt,
+  loaded-reads.Asked,
+  loaded-reads.Learnt,
+  note-reads.Asked,
+  note-reads.Learnt,
+  try-from-below t,
+  try-from.Post,
+) (visit-at t) visit.Post
+visit-add-try-from t c =
+    let x = c .before .before .before .before .before .before .before .before .before .before .before .before .before .before .before .before .before .before .before .before .before .before .before .before .before .before .before in
+    omega (arith, x .pre .1 .1 .1 .0, has-work _ _ _ _ (x .pre .1 .0) _ (x .pre .1 .1 .0 _ _ (x .pre .1 .0 .lists)), x .good .1 .1 .1 .1 .1 .1 .1 .1 .1 .1 .1 .1 .0 .0)
+
+-- src/cycle.rt:85:5
 visit-try-from-requires : (t : ℕ) → visit-lts.Need-try-from-requires (
+  step-reads.Asked,
+  step-reads.Learnt,
+  loaded-reads.Asked,
+  loaded-reads.Learnt,
   note-reads.Asked,
   note-reads.Learnt,
   try-from-below t,
   try-from.Post,
 ) (visit-at t) visit.Post
 visit-try-from-requires t c κs =
-    let x = c .before .before .before .before .before .before .before .before .before .before in
-    let u = x .args in
-    (omega (arith, x .pre .0), (x .pre .1 .0, (x .pre .1 .1, omega arith)))
+    let x = c .before .before .before .before .before .before .before .before .before .before .before .before .before .before .before .before .before .before .before .before .before .before .before .before .before .before .before .before .before in
+    let t = c .before .before .before .before .before .before .before .before .before .before .before .before .before .before .step .ensures _ (x .pre .1 .0 .lists) in
+    let less = falls-on _ _ _ _ (x .pre .1 .0) _ _ _ t _ (c .before .before .before .before .before .before .before .before .before .before .before .before .before .loaded .ensures) in
+    (omega (arith, x .pre .0, less), (walks-on _ _ _ _ (x .pre .1 .0) _ _ _ t _ (c .before .before .before .before .before .before .before .before .before .before .before .before .before .loaded .ensures), (simp length-set (omega (arith, x .pre .1 .1 .1 .0, less)), omega arith)))
 
+-- src/cycle.rt:43:1
 visit-same-length : (t : ℕ) → visit-lts.Need-same-length (
+  step-reads.Asked,
+  step-reads.Learnt,
+  loaded-reads.Asked,
+  loaded-reads.Learnt,
   note-reads.Asked,
   note-reads.Learnt,
   try-from-below t,
   try-from.Post,
 ) (visit-at t) visit.Post
-visit-same-length t c = c .before .before .before .before .try-from .kept .1 .1 .1 .1 .1 .1 .1 .0
+visit-same-length t c = c .before .before .before .before .try-from .kept .1 .1 .1 .1 .1 .1 .1 .1 .1 .1 .1 .1 .0 ∙ simp length-set
 
+-- src/cycle.rt:43:1
 visit-same-length-2 : (t : ℕ) → visit-lts.Need-same-length-2 (
+  step-reads.Asked,
+  step-reads.Learnt,
+  loaded-reads.Asked,
+  loaded-reads.Learnt,
   note-reads.Asked,
   note-reads.Learnt,
   try-from-below t,
   try-from.Post,
 ) (visit-at t) visit.Post
-visit-same-length-2 t c = c .before .before .before .before .try-from .kept .1 .1 .1 .1 .1 .1 .1 .1 .0 ∙ c .before .before .before .before .before .before .before .before .before .note .kept .1 .1 .1 .1 .1 .0
+visit-same-length-2 t c = c .before .before .before .before .try-from .kept .1 .1 .1 .1 .1 .1 .1 .1 .1 .1 .1 .1 .1 .0 ∙ c .before .before .before .before .before .before .before .before .before .before .before .before .before .before .before .note .kept .1 .1 .1 .1 .1 .0
 
+-- src/cycle.rt:43:1
 visit-returns : (t : ℕ) → visit-lts.Need-returns (
+  step-reads.Asked,
+  step-reads.Learnt,
+  loaded-reads.Asked,
+  loaded-reads.Learnt,
   note-reads.Asked,
   note-reads.Learnt,
   try-from-below t,
   try-from.Post,
 ) (visit-at t) visit.Post
-unfolding progOf
 visit-returns t c =
-    let x = c .before .before .before .before .before .before .before .before .before .before .before .before .before .before .before in
-    let u = x .args in
-    (λ a h. visited (u .p) (u .q) (u .s) (u .g) (x .pre .1 .0) (take (u .d) (u .path .now)) a _ _ (c .before .before .before .before .try-from .ensures .0 _ (c .before .before .before .before .before .before .before .before .before .note .ensures (progOf (u .p)) (machineOf (u .s) (u .g)) a (x .pre .1 .0 .locs) refl h)), c .before .before .before .before .try-from .ensures .1)
+    let x = c .before .before .before .before .before .before .before .before .before .before .before .before .before .before .before .before .before .before .before .before .before .before .before .before .before .before .before .before .before .before .before .before .before .before in
+    let ok = x .pre .1 .0 in
+    let t = c .before .before .before .before .before .before .before .before .before .before .before .before .before .before .before .before .before .before .before .step .ensures _ (ok .lists) in
+    let e = c .before .before .before .before .before .before .before .before .before .before .before .before .before .before .before .before .before .before .loaded .ensures in
+    let on = walks-on _ _ _ _ ok _ _ _ t _ e in
+    let room : x .args .d < length (x .args .path .now) = omega (arith, x .pre .1 .1 .1 .0, has-work _ _ _ _ (x .pre .1 .0) _ (x .pre .1 .1 .0 _ _ (x .pre .1 .0 .lists))) in
+    (λ a m h f. arrived _ _ _ _ on _ a _ _ _ _ m (path-on (x .args .path .now) (x .args .d) _ room) (comes-to _ _ _ _ ok _ _ _ t _ e m f) (c .before .before .before .before .try-from .ensures .0 _ (c .before .before .before .before .before .before .before .before .before .before .before .before .before .before .before .note .ensures _ _ a (asked-locs (x .args .list .now) (x .args .q)) refl h)) refl, path-back (x .args .path .now) _ (x .args .d) _ room (c .before .before .before .before .try-from .ensures .1))
 
 pub +try-from+visit-spec : {M : Type 1} → statement M
 +try-from+visit-spec = close μ-try-from μ-visit (λ t. try-from-lts.spec (
@@ -484,41 +505,51 @@ pub +try-from+visit-spec : {M : Type 1} → statement M
   next-from-reads.Learnt,
   filled-reads.Asked,
   filled-reads.Learnt,
-  step-reads.Asked,
-  step-reads.Learnt,
-  loaded-reads.Asked,
-  loaded-reads.Learnt,
   visit-below t,
   visit.Post,
-  try-from-below t,
-  try-from.Post,
 )
     (try-from-at t)
     try-from.Post
+    try-from-Inv-loop
+    try-from-μ-loop
+    (try-from-loop-holds t)
     (try-from-is-going-requires t)
+    (try-from-same-length t)
+    (try-from-same-length-2 t)
     (try-from-returns t)
     (try-from-next-from-requires t)
     (try-from-enum-told t)
+    (try-from-same-length-3 t)
+    (try-from-same-length-4 t)
+    (try-from-returns-2 t)
     (try-from-enum-told-2 t)
     (try-from-filled-requires t)
-    (try-from-enum-told-3 t)
-    (try-from-slice-write-path t)
-    (try-from-step-requires t)
-    (try-from-loaded-requires t)
-    (try-from-add-visit t)
-    (try-from-visit-requires t)
-    (try-from-add-try-from t)
-    (try-from-try-from-requires t)
-    (try-from-returns-2 t)
+    (try-from-same-length-5 t)
+    (try-from-same-length-6 t)
     (try-from-returns-3 t)
-    (try-from-same-length t)
-    (try-from-same-length-2 t)
-    (try-from-returns-4 t))
-    λ t. visit-lts.spec
-    (note-reads.Asked, note-reads.Learnt, try-from-below t, try-from.Post)
+    (try-from-enum-told-3 t)
+    (try-from-visit-requires t)
+    (try-from-add-k t)
+    (try-from-loop-less t)
+    (try-from-loop-again t))
+    λ t. visit-lts.spec (
+      step-reads.Asked,
+      step-reads.Learnt,
+      loaded-reads.Asked,
+      loaded-reads.Learnt,
+      note-reads.Asked,
+      note-reads.Learnt,
+      try-from-below t,
+      try-from.Post,
+    )
     (visit-at t)
     visit.Post
+    (visit-step-requires t)
+    (visit-loaded-requires t)
+    (visit-slice-write-path t)
+    (visit-add-note t)
     (visit-note-requires t)
+    (visit-add-try-from t)
     (visit-try-from-requires t)
     (visit-same-length t)
     (visit-same-length-2 t)

@@ -1,0 +1,87 @@
+//! Measures the program's walk beside the one written by hand: `pace GALLERY -- BENCH.. -- HAND..`, the command lines of `bench` and of
+//! pace/hand.rs. Each runs every question in turn, five times; the shortest time counts, less that of a question with one run.
+
+use harness::hand::memory_number;
+use harness::pack::packed;
+use harness::program::{Question, Want};
+use harness::text;
+use std::io::Write;
+use std::path::Path;
+use std::process::{Command, Stdio};
+use std::time::{Duration, Instant};
+
+const TIMES: usize = 5;
+
+const ONE_RUN: &str = "threads=1\nlocs=1\nbudget=1\nwant=all\nthread=0\n";
+
+/// The three questions of the base, by letter, and four of the gallery, by name. Those that no walk ends are measured to their budget.
+const QUESTIONS: [(&str, &str); 3] = [
+    ("a", "threads=2\nlocs=2\nbudget=2000000\nwant=all\nthread=0\nop=st,0,1\nop=st,0,2\nop=st,0,3\nthread=1\nop=st,1,1\nop=st,1,2\nop=st,1,3\n"),
+    (
+        "b",
+        "threads=2\nlocs=3\nbudget=1000000\nwant=all\nthread=0\nop=st,0,42\nop=st,1,7\nthread=1\nop=ld,0,1\nop=bz,0,4\nop=fo,0\nop=fo,1\nop=sf\nop=st,2,1\n",
+    ),
+    (
+        "c",
+        "threads=1\nlocs=1\nbudget=2000000\nwant=all\nthread=0\nop=st,0,1\nop=st,0,2\nop=st,0,3\nop=st,0,4\nop=st,0,5\nop=st,0,6\nop=st,0,7\nop=st,0,8\n",
+    ),
+];
+
+const GALLERY: [&str; 4] = ["store-buffering-fenced", "two-writers-locked", "tare-replaced", "log-fenced"];
+
+fn main() {
+    let words: Vec<String> = std::env::args().skip(1).collect();
+    let parts: Vec<&[String]> = words.split(|word| word == "--").collect();
+    let [[gallery], bench, hand] = parts[..] else {
+        eprintln!("usage: pace GALLERY -- BENCH.. -- HAND..");
+        std::process::exit(2);
+    };
+    let mut questions: Vec<(String, String)> = QUESTIONS.iter().map(|(name, text)| (name.to_string(), text.to_string())).collect();
+    for name in GALLERY {
+        let text = std::fs::read_to_string(Path::new(gallery).join(name).with_extension("txt")).expect("a text of the gallery");
+        questions.push((name.to_string(), text));
+    }
+    let bench_start = shortest(bench, ONE_RUN.as_bytes()).0;
+    let hand_start = shortest(hand, &bytes(ONE_RUN)).0;
+    println!("| question | runs | bench, runs a second | by hand, runs a second | by hand, times as fast |");
+    println!("|---|---|---|---|---|");
+    for (name, text) in questions {
+        let (mine, _) = shortest(bench, text.as_bytes());
+        let (other, said) = shortest(hand, &bytes(&text));
+        let runs = u64::from_le_bytes(said[..8].try_into().expect("eight bytes"));
+        let mine = mine.saturating_sub(bench_start).as_secs_f64();
+        let other = other.saturating_sub(hand_start).as_secs_f64();
+        println!("| {name} | {runs} | {:.0} | {:.0} | {:.1} |", runs as f64 / mine, runs as f64 / other, mine / other);
+    }
+}
+
+/// The question as pace/hand.rs reads it.
+fn bytes(text: &str) -> Vec<u8> {
+    let Question { program, budget, want } = text::read(text.as_bytes()).expect("a question");
+    let packed = packed(&program);
+    let mut bytes = vec![packed.threads as u8, packed.locs as u8];
+    bytes.extend(packed.lengths);
+    for op in packed.ops.iter().flatten() {
+        bytes.extend(op.to_le_bytes());
+    }
+    let wanted = match want {
+        Want::All => [0, 0],
+        Want::One(memory) => [1, memory_number(&memory)],
+    };
+    for number in [budget as u64, wanted[0], wanted[1]] {
+        bytes.extend(number.to_le_bytes());
+    }
+    bytes
+}
+
+/// The shortest time of a command on this input, and what it wrote.
+fn shortest(command: &[String], input: &[u8]) -> (Duration, Vec<u8>) {
+    let runs = (0..TIMES).map(|_| {
+        let start = Instant::now();
+        let mut child = Command::new(&command[0]).args(&command[1..]).stdin(Stdio::piped()).stdout(Stdio::piped()).spawn().expect("the command");
+        child.stdin.take().expect("its input").write_all(input).expect("its input");
+        let output = child.wait_with_output().expect("its output");
+        (start.elapsed(), output.stdout)
+    });
+    runs.min_by_key(|(time, _)| *time).expect("at least one run")
+}

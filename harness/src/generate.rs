@@ -1,0 +1,63 @@
+//! Requests made from fixed seeds: the same number of the same family is the same request everywhere.
+
+mod codes;
+mod damage;
+mod programs;
+mod questions;
+
+use crate::protocol::Request;
+use crate::random::Random;
+
+pub use programs::{any_program, small_program};
+
+/// Walks of the comparison end behind this many runs.
+pub const MOST_RUNS: u64 = 1500;
+
+#[derive(Clone, Copy, Debug, PartialEq, Eq, PartialOrd, Ord)]
+pub enum Family {
+    /// Legal questions, asked.
+    Questions,
+    /// Texts with something changed, asked or written again.
+    Damaged,
+    /// Lists of codes, followed.
+    Codes,
+    /// Legal questions, written into buffers of about their length.
+    Written,
+}
+
+impl Family {
+    pub const ALL: [Family; 4] = [Family::Questions, Family::Damaged, Family::Codes, Family::Written];
+
+    pub fn name(self) -> &'static str {
+        match self {
+            Family::Questions => "questions",
+            Family::Damaged => "damaged texts",
+            Family::Codes => "lists of codes",
+            Family::Written => "written texts",
+        }
+    }
+
+    /// How many requests a whole comparison makes.
+    pub fn count(self) -> u64 {
+        match self {
+            Family::Questions | Family::Damaged | Family::Codes => 24_000,
+            Family::Written => 6_000,
+        }
+    }
+
+    /// The seed of one of its requests.
+    pub fn seed(self, index: u64) -> u64 {
+        (self as u64 + 1) << 32 | index
+    }
+}
+
+/// The request that a seed of a family stands for.
+pub fn request(family: Family, seed: u64) -> Request {
+    let random = &mut Random::new(seed);
+    match family {
+        Family::Questions => questions::asked(random),
+        Family::Damaged => damage::damaged(random),
+        Family::Codes => codes::followed(random),
+        Family::Written => questions::written(random),
+    }
+}

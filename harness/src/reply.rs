@@ -1,0 +1,79 @@
+//! The response that a request must get, by the simulator.
+
+use crate::follow::{follow, NotFollowed};
+use crate::print::print;
+use crate::protocol::{Kind, Request};
+use crate::text::{read, write, Refusal};
+
+/// What a lent buffer holds before the writer is called.
+pub const FILL: u8 = 0xAA;
+
+pub fn reply(request: &Request) -> Vec<u8> {
+    match request.kind {
+        Kind::Query => print(&request.text, usize::from(request.lent)).into_bytes(),
+        Kind::Write => reply_write(request),
+        Kind::Follow => reply_follow(request),
+    }
+}
+
+fn refused_text(refusal: Refusal) -> Vec<u8> {
+    let mut response = vec![b'T', refusal.number];
+    response.extend((refusal.line as u16).to_le_bytes());
+    response
+}
+
+fn reply_write(request: &Request) -> Vec<u8> {
+    let question = match read(&request.text) {
+        Ok(question) => question,
+        Err(refusal) => return refused_text(refusal),
+    };
+    let mut lent = vec![FILL; usize::from(request.lent)];
+    let mut response = match write(&question, &mut lent) {
+        Ok(_) => vec![b'W'],
+        Err(number) => vec![b'R', number],
+    };
+    response.extend(&lent);
+    response
+}
+
+fn reply_follow(request: &Request) -> Vec<u8> {
+    let question = match read(&request.text) {
+        Ok(question) => question,
+        Err(refusal) => return refused_text(refusal),
+    };
+    let (number, index) = match follow(&question.program, &request.codes) {
+        Ok(followed) => {
+            let mut response = vec![b'F'];
+            response.extend(followed.memory);
+            response.extend(followed.registers.iter().flatten());
+            response.extend(followed.places);
+            return response;
+        }
+        Err(NotFollowed::BreaksLimit) => (6, 0),
+        Err(NotFollowed::NoRoom) => (11, 0),
+        Err(NotFollowed::NotAllowed { index }) => (10, index as u32),
+    };
+    let mut response = vec![b'R', number];
+    response.extend(index.to_le_bytes());
+    response
+}
+
+/// The sort of a response, for counting: "all", "never", "refused 2", "written" and so on.
+pub fn sort_of(kind: Kind, response: &[u8]) -> String {
+    match (kind, response) {
+        (Kind::Query, _) => {
+            let text = String::from_utf8_lossy(response);
+            let mut lines = text.lines();
+            let answer = lines.next().unwrap_or("").replacen("answer=", "", 1);
+            match lines.next() {
+                Some(line) if answer == "refused" => line.replacen("number=", "refused ", 1),
+                _ => answer,
+            }
+        }
+        (_, [b'T', number, ..]) => format!("text refused {number}"),
+        (_, [b'R', number, ..]) => format!("refused {number}"),
+        (_, [b'W', ..]) => "written".to_string(),
+        (_, [b'F', ..]) => "followed".to_string(),
+        _ => "misshapen".to_string(),
+    }
+}

@@ -1,0 +1,26 @@
+//! The gallery, answered by the simulator and by a command.
+
+use std::process::Command;
+
+fn gallery(arguments: &[&str]) -> (String, bool) {
+    let output = Command::new(env!("CARGO_BIN_EXE_gallery")).args(arguments).output().expect("gallery runs");
+    (String::from_utf8(output.stdout).expect("printed text"), output.status.success())
+}
+
+#[test]
+fn every_text_has_its_answer() {
+    let directory = concat!(env!("CARGO_MANIFEST_DIR"), "/../gallery");
+    let (output, ended_well) = gallery(&[directory]);
+    assert!(ended_well && output.ends_with(" texts, 0 differ\n"), "{output}");
+    let (output, ended_well) = gallery(&[directory, "--", env!("CARGO_BIN_EXE_simulate")]);
+    assert!(ended_well && output.ends_with(" texts, 0 differ\n"), "{output}");
+}
+
+#[test]
+fn another_output_is_a_difference() {
+    let directory = concat!(env!("CARGO_MANIFEST_DIR"), "/../gallery");
+    let (output, ended_well) = gallery(&[directory, "--", env!("CARGO_BIN_EXE_mock")]);
+    assert!(!ended_well && !output.ends_with(" 0 differ\n"), "{output}");
+    // No texts at all are no agreement.
+    assert!(!gallery(&[concat!(env!("CARGO_MANIFEST_DIR"), "/src")]).1);
+}

@@ -1,0 +1,48 @@
+//! A stand-in for the proved side's test program: the simulator itself, with one slip if an argument names it.
+
+use harness::protocol::{put_response, Kind, Request};
+use harness::reply::reply;
+use std::io::{self, BufReader, BufWriter, Write};
+
+fn main() -> io::Result<()> {
+    let slip = std::env::args().nth(1).unwrap_or_default();
+    let mut input = BufReader::new(io::stdin());
+    let mut output = BufWriter::new(io::stdout());
+    while let Some(request) = Request::take(&mut input)? {
+        put_response(&mut output, &answer(&slip, &request))?;
+        output.flush()?;
+    }
+    Ok(())
+}
+
+fn answer(slip: &str, request: &Request) -> Vec<u8> {
+    let right = reply(request);
+    let text = String::from_utf8_lossy(&request.text).into_owned();
+    let with_text = |text: String| reply(&Request { text: text.into_bytes(), ..request.clone() });
+    match slip {
+        "" => right,
+        // An fo treated as if it waited.
+        "fo-waits" if request.kind == Kind::Query => with_text(text.replace("op=fo,", "op=fl,")),
+        // A total equal to the budget taken for one over it.
+        "equal-is-over" if request.kind == Kind::Query => {
+            let printed = String::from_utf8_lossy(&right).into_owned();
+            match text.lines().find_map(|line| line.strip_prefix("budget=")) {
+                Some(budget) if printed.contains(&format!("runs={budget}\n")) => {
+                    format!("answer=over\nbudget={budget}\n").into_bytes()
+                }
+                _ => right,
+            }
+        }
+        "carriage-return-read" => with_text(text.replace('\r', "")),
+        "writer-clears" if right.first() == Some(&b'R') && request.kind == Kind::Write => {
+            right[..2].iter().copied().chain(right[2..].iter().map(|_| 0)).collect()
+        }
+        "index-from-one" if right.starts_with(&[b'R', 10]) => {
+            let mut wrong = right;
+            wrong[2] = wrong[2].wrapping_add(1);
+            wrong
+        }
+        "ends" if request.kind == Kind::Query && text.contains("op=faa") => std::process::exit(3),
+        _ => right,
+    }
+}
