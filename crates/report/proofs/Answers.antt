@@ -1,7 +1,7 @@
 -- What the answer to an accepted question keeps, and so how long a response can be. Assumes nothing.
-use Prim.Native.Nat.{ℕ, zero, suc, _+_, _*_, _<_, _≤_}
+use Prim.Native.Nat.{ℕ, zero, suc, _*_, _<_, _≤_}
 use mathlib.Core.Path.{_≡_, refl, sym, ap, subst, _∙_}
-use mathlib.Core.Bool.{Bool, true, false, false≢true}
+use mathlib.Core.Bool.{true, false, false≢true}
 use mathlib.Core.Option.{some}
 use mathlib.Core.List.{List, [], _∷_, List·Memᴰ, List·Memᴰ·head, List·Memᴰ·tail}
 use native.Mathlib.Omega.{arith}
@@ -16,7 +16,7 @@ use Rattle.program.specs.declared.Op.{Op}
 use Rattle.program.specs.declared.Op.the-variants.{St, Sr, Ld, Cas, Faa, Mf, Sf, Fl, Fo, Bz}
 use Rattle.program.specs.declared.Program.{Program}
 use Rattle.program.specs.declared.Question.{Question}
-use Rattle.program.specs.Program.{Prog, progOf, Wanted, wantedOf}
+use Rattle.program.specs.Program.{progOf, Wanted}
 use Rattle.program.specs.Program.Wanted.{all, one}
 use Rattle.program.specs.Legal.{legal, legalAsked}
 use Rattle.program.proofs.Legal.{kept}
@@ -36,17 +36,17 @@ use Rattle.px86.proofs.One.{one-exactly}
 use Rattle.words.specs.Op.{Within}
 use Rattle.words.specs.Want.{WantFits, wantOf}
 use Rattle.words.proofs.Want.{want-count}
-use Rattle.question.specs.Question.{Asked, Short, AllWithin, ThreadsWithin, programOf, holding, questionOf}
+use Rattle.question.specs.Question.{Asked, Short, AllWithin, ThreadsWithin, questionOf}
 use Rattle.question.proofs.Made.{prog-back, wanted-back}
 use Rattle.question.proofs.Lawful.{within-short}
-use Rattle.text.specs.Read.{Head, Outcome, refused, accepted, askedOf, readText, parsedOf, readOf}
+use Rattle.text.specs.Read.{Outcome, refused, accepted, readText, parsedOf, readOf}
 use Rattle.text.specs.declared.Parsed.{Parsed}
 use Rattle.text.specs.declared.Verdict.the-variants.{Accepted, Refused}
 use Rattle.text.proofs.Ends.{read-is}
 use Rattle.text.proofs.Legal.{Fitting, accepted-fits, fitting-legal, fitting-want}
 use Rattle.rows.specs.Rows.{Wide}
 use Rattle.say.specs.Said.{said, refusedText}
-use Rattle.say.specs.Kept.{Bytes, KeptAll, KeptRun, Kept}
+use Rattle.say.proofs.Kept.{Bytes, Kept}
 use Rattle.say.proofs.Values.{Stores, AllStore, left-bytes}
 use Rattle.say.proofs.Bound.{longest, refused-long, said-long}
 use Rattle.report.specs.Response.{mostLent, lentOf, mostPrinted, answerTo, responseTo, responseOf}

@@ -1,7 +1,6 @@
 -- Responses, computed: document 01's worked example, and texts that are refused. Assumes nothing.
-use Prim.Native.Nat.{ℕ}
 use mathlib.Core.Path.{_≡_, refl, ap, _∙_}
-use mathlib.Core.List.{List, [], _∷_, map}
+use mathlib.Core.List.{[], _∷_, map}
 use Prim.Native.String.{String}
 use Rattle.names.specs.Names.{pick}
 use Rattle.tables.specs.Tables.{padded, packed}

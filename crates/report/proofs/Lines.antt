@@ -1,6 +1,6 @@
 -- The reader's refusals: their numbers are at most 5, and their lines at most 1,026. Assumes nothing.
-use Prim.Native.Nat.{ℕ, suc, _+_, _*_, _≤_, _<_}
-use mathlib.Core.Path.{_≡_, refl, sym, ap, _∙_}
+use Prim.Native.Nat.{ℕ, suc, _+_, _*_, _≤_}
+use mathlib.Core.Path.{_≡_, refl}
 use mathlib.Core.Bool.{Bool, true, false}
 use mathlib.Core.Option.{Option, none, some}
 use mathlib.Core.List.{List, [], _∷_, _++_}
@@ -23,7 +23,7 @@ use Rattle.question.specs.Question.{Asked, Short}
 use Rattle.question.specs.Past.{leaps, pastIn, orElse, past, firstThread}
 use Rattle.question.proofs.Four.{short-last}
 use Rattle.question.proofs.Lawful.{within-short}
-use Rattle.text.specs.Read.{Head, So, nothing, threaded, located, budgeted, wanting, inside, Step, fault, next, onNumber, onWant, onTurn, onOp, threadLine, threadsKey, locsKey, budgetKey, step, Outcome, refused, accepted, askedOf, onPast, end, onStep, readParts, mostBytes, readText}
+use Rattle.text.specs.Read.{So, nothing, threaded, located, budgeted, wanting, inside, Step, fault, next, onNumber, onWant, onTurn, onOp, threadLine, threadsKey, locsKey, budgetKey, step, Outcome, refused, accepted, askedOf, onPast, end, onStep, readParts, mostBytes, readText}
 use Rattle.text.specs.Packed.{Valid}
 use Rattle.text.proofs.Keeps.{valid-step}
 

@@ -1,25 +1,23 @@
 -- How long what is printed can be: at most 30,761 bytes where at most 4,096 are lent, which two locations can come to. Assumes nothing.
-use mathlib.Core.Path.{_≡_, refl, sym, _∙_, ap}
+use mathlib.Core.Path.{_≡_, refl, ap}
 use mathlib.Core.Bool.{Bool, true, false, _&&_, _||_, false≢true}
 use mathlib.Core.Logic.{inl, inr}
-use mathlib.Core.List.{List, [], _∷_, _++_, List·Memᴰ, List·Memᴰ·head, List·Memᴰ·tail, List·Memᴰ·cases-cons, List·Memᴰ·not-nil}
+use mathlib.Core.List.{List, [], _∷_, List·Memᴰ, List·Memᴰ·head, List·Memᴰ·tail, List·Memᴰ·cases-cons, List·Memᴰ·not-nil}
 use Prim.Native.Nat.{ℕ, zero, suc, _+_, _-_, _*_, _≤_, _<_}
 use native.Mathlib.Omega.{arith}
 use native.Mathlib.Nat.{suc-mul, mul-suc}
 use borrow.Author.Tests.{ltb-true}
 use lib.Dec.{ltb, eqb}
 use lib.ListN.{length, getD, drop, length-append}
-use Rattle.names.specs.Names.{mostRuns}
 use Rattle.number.specs.Decimal.{decimal}
 use Rattle.number.proofs.Lengths.{byte-short, budget-short, decimal-short}
 use Rattle.line.specs.Join.{commaed}
-use Rattle.px86.specs.declared.Refusal.{Refusal}
 use Rattle.px86.specs.declared.Refusal.the-variants.{Illegal, WrongWant, Over, TooLong, Barred, NoRoom}
-use Rattle.px86.specs.Ask.{Answer, before, numberOf}
+use Rattle.px86.specs.Ask.{Answer, before}
 use Rattle.px86.specs.Ask.Answer.{every, reached, never, none}
 use Rattle.px86.specs.Place.{Behind, Ascending}
-use Rattle.say.specs.Said.{field, number, listed, memoryKey, memoryLines, runsKey, memoriesKey, placeKey, runKey, budgetKey, numberKey, lineKey, allText, refusedText, refusalText, said}
-use Rattle.say.specs.Kept.{Bytes, KeptAll, KeptRun, Kept}
+use Rattle.say.specs.Said.{field, listed, memoryKey, memoryLines, runsKey, memoriesKey, placeKey, runKey, budgetKey, numberKey, lineKey, allText, refusedText, refusalText, said}
+use Rattle.say.proofs.Kept.{Bytes, KeptAll, Kept}
 use Rattle.say.proofs.Pieces.{listed-none, listed-length, field-length, reached-length, never-length, over-length, refused-length, all-length}
 
 -- the most that is printed where at most 4,096 bytes are lent

@@ -1,12 +1,12 @@
 -- "Values are 0 to 255": registers, stores in buffers, writes in queues and the memory are bytes in every state that a run comes to, if what
 -- the program's instructions store is. Assumes nothing.
-use mathlib.Core.Path.{_≡_, refl, sym, ap, subst}
+use mathlib.Core.Path.{_≡_, refl, subst}
 use Prim.Native.Nat.{ℕ, zero, suc, _+_, _%_, _≤_}
 use native.Mathlib.Omega.{arith}
 use mathlib.Core.Bool.{Bool, true, false}
 use mathlib.Core.Option.{Option, none, some}
 use mathlib.Core.List.{List, [], _∷_, _++_}
-use lib.ListN.{length, getD, set, take, drop, replicate, getElem?}
+use lib.ListN.{getD, take, replicate, getElem?}
 use lib.Dec.{eqb}
 use Rattle.names.specs.Names.{pick, threads, locations, registers as registersEach}
 use Rattle.tables.specs.Tables.{without, padded}
@@ -14,15 +14,15 @@ use Rattle.tables.proofs.Closed.{all-set}
 use Rattle.program.specs.Program.{Prog}
 use Rattle.program.specs.declared.Op.{Op}
 use Rattle.program.specs.declared.Op.the-variants.{St, Sr, Ld, Cas, Faa, Mf, Sf, Fl, Fo, Bz}
-use Rattle.px86.specs.Machine.{Entry, Mark, Machine, from, start, left, line, place, register, buffer, queue, moved, wrote, buffered, queued, persisted}
+use Rattle.px86.specs.Machine.{Entry, Mark, Machine, from, start, left, line, place, buffer, queue, moved, wrote, buffered, queued, persisted}
 use Rattle.px86.specs.Machine.Entry.{store, fence, flush, flushopt}
 use Rattle.px86.specs.Machine.Mark.{write, opt}
-use Rattle.px86.specs.Step.{Stepped, Puts, stored, written, reads, join, enqueue, locked, does, next, goes, leaves, persists, Sort, sort, sorted, step}
+use Rattle.px86.specs.Step.{Stepped, stored, written, reads, join, enqueue, locked, does, next, goes, leaves, persists, Sort, sort, sorted, step}
 use Rattle.px86.specs.Step.Stepped.{to, barred, full}
 use Rattle.px86.specs.Step.Sort.{thread, leave, persist, other}
 use Rattle.px86.specs.Runs.{after}
 use Rattle.px86.specs.Place.{Comes}
-use Rattle.say.specs.Kept.{Bytes}
+use Rattle.say.proofs.Kept.{Bytes}
 use Rattle.px86.proofs.Then.{Then, then-when, then-fits, then-either}
 
 -- what an instruction stores, an entry or a mark holds, is a byte

@@ -1,11 +1,11 @@
 // What the program prints for an answer, written at the front of a lent buffer.
 ghost use mathlib.Core.Path.{_≡_};
-ghost use mathlib.Core.List.{[], _∷_, _++_};
+ghost use mathlib.Core.List.{_++_};
 ghost use Prim.Native.Nat.{_+_, _*_, _≤_};
 ghost use lib.ListN.{length, replicate};
 ghost use Rattle.tables.specs.Tables.{rows};
 ghost use Rattle.number.specs.Put.{put};
-ghost use Rattle.say.specs.Said.{field, listed, memoryKey, memoryLines, allText, reachedText, neverText, overText, refusedText, refusalText};
+ghost use Rattle.say.specs.Said.{field, number, listed, memoryLines, allText, reachedText, neverText, overText, refusedText, refusalText};
 use px86::Refusal;
 
 // Writes numbers with commas, and returns the place behind them.
@@ -76,13 +76,22 @@ pub fn print_reached(buf: &mut [u8], n: u32, run: &[u8]) -> usize
     put_list_line(buf, f, b"run=", run)
 }
 
+// A first line, and a line KEY=NUMBER, where w is "KEY=".
+fn print_two(buf: &mut [u8], first: &[u8], w: &[u8], n: u32) -> usize
+    requires { ⌜ length (now first ++ number (now w) n) ≤ length (now buf) ⌝ }
+    ensures { λ r. ⌜ (r ≡ length (now (first .entry) ++ number (now (w .entry)) n))
+        × (now (buf .exit) ≡ put (now (buf .entry)) 0 (now (first .entry) ++ number (now (w .entry)) n)) ⌝ }
+{
+    let e = number::put_bytes(buf, 0, first);
+    line::put_number_line(buf, e, w, n)
+}
+
 // No run leaves the wanted memory: how many runs there are.
 pub fn print_never(buf: &mut [u8], n: u32) -> usize
     requires { ⌜ length (neverText n) ≤ length (now buf) ⌝ }
     ensures { λ r. ⌜ (r ≡ length (neverText n)) × (now (buf .exit) ≡ put (now (buf .entry)) 0 (neverText n)) ⌝ }
 {
-    let e = number::put_bytes(buf, 0, b"answer=never\n");
-    line::put_number_line(buf, e, b"runs=", n)
+    print_two(buf, b"answer=never\n", b"runs=", n)
 }
 
 // Refusal 8, with the budget.
@@ -90,8 +99,7 @@ pub fn print_over(buf: &mut [u8], b: u32) -> usize
     requires { ⌜ length (overText b) ≤ length (now buf) ⌝ }
     ensures { λ r. ⌜ (r ≡ length (overText b)) × (now (buf .exit) ≡ put (now (buf .entry)) 0 (overText b)) ⌝ }
 {
-    let e = number::put_bytes(buf, 0, b"answer=over\n");
-    line::put_number_line(buf, e, b"budget=", b)
+    print_two(buf, b"answer=over\n", b"budget=", b)
 }
 
 // Any other refusal: its number and its line, 0 where there is none.

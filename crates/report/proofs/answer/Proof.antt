@@ -1,18 +1,12 @@
 -- `report::answer` meets its contract. Assumes nothing.
 use native.Mathlib.Omega.{arith}
-use mathlib.Core.Path.{_≡_, refl, sym, _∙_, ap}
-use mathlib.Core.List.{List}
-use Prim.Native.Nat.{ℕ, _≤_}
-use lib.ListN.{length, take}
+use mathlib.Core.Path.{_≡_, sym}
+use lib.ListN.{length}
 use lib.Seq.{length-take-le}
 use Rattle.report.proofs.Back.{wants-all, wants-one}
 use borrow.Author.Needs.{needs}
 use Rattle.report.proofs.answer.Statement.{statement}
 use Rattle.report.proofs.answer.Tie as tie
-use Rattle.report.proofs.answer.Reads as reads
-use Rattle.report.proofs.answer.Lts as lts
-use Rattle.ask.proofs.ask_all.Reads as ask-all-reads
-use Rattle.ask.proofs.ask_one.Reads as ask-one-reads
 
 ask-all-requires : tie.Need-ask-all-requires
 ask-all-requires c κs = search needs

@@ -1,21 +1,13 @@
 -- `report::print` meets its contract, answer by answer. Assumes nothing.
 use native.Mathlib.Omega.{arith}
-use mathlib.Core.Path.{_≡_, refl, sym, _∙_, ap, subst}
-use mathlib.Core.List.{List}
-use Prim.Native.Nat.{ℕ, _≤_}
-use lib.ListN.{length, take}
+use mathlib.Core.Path.{sym, ap, subst}
+use lib.ListN.{length}
 use lib.Seq.{length-take-le}
 use Rattle.report.specs.Heard.{There}
 use Rattle.report.proofs.Back.{says-all, says-reached, says-never, says-refusal}
 use borrow.Author.Needs.{needs}
 use Rattle.report.proofs.print.Statement.{statement}
 use Rattle.report.proofs.print.Tie as tie
-use Rattle.report.proofs.print.Reads as reads
-use Rattle.report.proofs.print.Lts as lts
-use Rattle.say.proofs.print_all.Reads as print-all-reads
-use Rattle.say.proofs.print_never.Reads as print-never-reads
-use Rattle.say.proofs.print_reached.Reads as print-reached-reads
-use Rattle.say.proofs.print_refusal.Reads as print-refusal-reads
 
 enum-known-a : tie.Need-enum-known-a
 enum-known-a c = search needs

@@ -1,9 +1,8 @@
 -- `report::respond` meets its contract: what was printed, with zeros behind it. Assumes nothing.
 use native.Mathlib.Omega.{arith}
-use mathlib.Core.Path.{_≡_, refl, sym, _∙_, ap}
-use mathlib.Core.List.{List}
+use mathlib.Core.Path.{_≡_, _∙_, ap}
 use Prim.Native.Nat.{ℕ, _≤_}
-use lib.ListN.{length, take, replicate}
+use lib.ListN.{length, replicate}
 use Rattle.report.specs.Response.{lentOf, responseOf}
 use Rattle.tables.proofs.Packed.{padded-length}
 use Rattle.report.proofs.Back.{front-zeros}
@@ -11,11 +10,6 @@ use Rattle.report.proofs.Answers.{response-long, lent-few}
 use borrow.Author.Needs.{needs}
 use Rattle.report.proofs.respond.Statement.{statement}
 use Rattle.report.proofs.respond.Tie as tie
-use Rattle.report.proofs.respond.Reads as reads
-use Rattle.report.proofs.respond.Lts as lts
-use Rattle.number.proofs.zero_from.Reads as zero-from-reads
-use Rattle.report.proofs.respond_in.Reads as respond-in-reads
-use Rattle.rows.proofs.clear.Reads as clear-reads
 
 respond-in-requires : tie.Need-respond-in-requires
 respond-in-requires c κs = search needs

@@ -1,19 +1,10 @@
 -- `report::respond_asked` meets its contract: what was put into the lent buffer is what is printed. Assumes nothing.
-use native.Mathlib.Omega.{arith}
-use mathlib.Core.Path.{_≡_, refl, sym, _∙_, ap}
-use mathlib.Core.List.{List}
-use Prim.Native.Nat.{ℕ, _≤_}
 use lib.ListN.{length}
-use Rattle.say.specs.Said.{said}
-use Rattle.report.specs.Heard.{heard, There, answerIn}
+use Rattle.report.specs.Heard.{answerIn}
 use Rattle.report.proofs.Back.{heard-back, there-back}
 use borrow.Author.Needs.{needs}
 use Rattle.report.proofs.respond_asked.Statement.{statement}
 use Rattle.report.proofs.respond_asked.Tie as tie
-use Rattle.report.proofs.respond_asked.Reads as reads
-use Rattle.report.proofs.respond_asked.Lts as lts
-use Rattle.report.proofs.answer.Reads as answer-reads
-use Rattle.report.proofs.print.Reads as print-reads
 
 cast-w : tie.Need-cast-w
 cast-w c = search needs

@@ -1,8 +1,7 @@
 -- `report::respond_in` meets its contract, verdict by verdict. Assumes nothing.
 use native.Mathlib.Omega.{arith}
-use mathlib.Core.Path.{_≡_, refl, sym, _∙_, ap}
-use mathlib.Core.List.{List}
-use Prim.Native.Nat.{ℕ, _≤_}
+use mathlib.Core.Path.{sym, _∙_, ap}
+use Prim.Native.Nat.{ℕ}
 use lib.ListN.{length, take}
 use lib.Seq.{length-take-le}
 use Rattle.say.specs.Said.{refusedText}
@@ -12,12 +11,6 @@ use Rattle.report.proofs.Answers.{refused-says, refused-small, accepted
 use borrow.Author.Needs.{needs}
 use Rattle.report.proofs.respond_in.Statement.{statement}
 use Rattle.report.proofs.respond_in.Tie as tie
-use Rattle.report.proofs.respond_in.Reads as reads
-use Rattle.report.proofs.respond_in.Lts as lts
-use Rattle.line.proofs.wide.Reads as wide-reads
-use Rattle.report.proofs.respond_asked.Reads as respond-asked-reads
-use Rattle.say.proofs.print_refused.Reads as print-refused-reads
-use Rattle.text.proofs.read.Reads as read-reads
 
 read-requires : tie.Need-read-requires
 read-requires c κs = search needs

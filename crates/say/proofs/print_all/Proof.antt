@@ -1,22 +1,14 @@
 -- `say::print_all` meets its contract: its four pieces stand one behind the other. Assumes nothing.
 use native.Mathlib.Omega.{arith}
-use mathlib.Core.Path.{_≡_, refl, sym, _∙_, ap}
-use mathlib.Core.List.{List, _++_}
-use Prim.Native.Nat.{ℕ, _≤_}
+use mathlib.Core.Path.{ap}
 use lib.ListN.{length, replicate}
 use Rattle.tables.specs.Tables.{rows}
-use Rattle.number.specs.Put.{put}
 use Rattle.number.proofs.Put.{put-four}
-use Rattle.say.specs.Said.{number, answerKey, allWord, field, runsKey, memoriesKey, memoryLines, allText}
+use Rattle.say.specs.Said.{number, answerKey, allWord, field, runsKey, memoriesKey, memoryLines}
 use Rattle.say.proofs.Pieces.{at-front, all-pieces, all-sized}
 use borrow.Author.Needs.{needs}
 use Rattle.say.proofs.print_all.Statement.{statement}
 use Rattle.say.proofs.print_all.Tie as tie
-use Rattle.say.proofs.print_all.Reads as reads
-use Rattle.say.proofs.print_all.Lts as lts
-use Rattle.line.proofs.put_number_line.Reads as put-number-line-reads
-use Rattle.number.proofs.put_bytes.Reads as put-bytes-reads
-use Rattle.say.proofs.put_memories.Reads as put-memories-reads
 
 slice-aggregate-put-bytes : tie.Need-slice-aggregate-put-bytes
 slice-aggregate-put-bytes c = search needs

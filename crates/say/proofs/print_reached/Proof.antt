@@ -1,18 +1,11 @@
 -- `say::print_reached` meets its contract: its three lines stand one behind the other. Assumes nothing.
 use native.Mathlib.Omega.{arith}
-use mathlib.Core.List.{List}
-use Prim.Native.Nat.{ℕ}
 use Rattle.number.proofs.Put.{put-three}
 use Rattle.say.specs.Said.{number, answerKey, reachedWord, field, placeKey, runKey, listed, reachedText}
 use Rattle.say.proofs.Pieces.{at-front, reached-length}
 use borrow.Author.Needs.{needs}
 use Rattle.say.proofs.print_reached.Statement.{statement}
 use Rattle.say.proofs.print_reached.Tie as tie
-use Rattle.say.proofs.print_reached.Reads as reads
-use Rattle.say.proofs.print_reached.Lts as lts
-use Rattle.line.proofs.put_number_line.Reads as put-number-line-reads
-use Rattle.number.proofs.put_bytes.Reads as put-bytes-reads
-use Rattle.say.proofs.put_list_line.Reads as put-list-line-reads
 
 slice-aggregate-put-bytes : tie.Need-slice-aggregate-put-bytes
 slice-aggregate-put-bytes c = search needs

@@ -1,22 +1,13 @@
 -- `say::print_refusal` meets its contract. Assumes nothing.
 use native.Mathlib.Omega.{arith}
-use mathlib.Core.Path.{_≡_, refl, sym, _∙_, ap}
-use mathlib.Core.List.{List}
-use Prim.Native.Nat.{ℕ, _≤_}
+use mathlib.Core.Path.{sym, _∙_, ap}
+use Prim.Native.Nat.{ℕ}
 use lib.ListN.{length}
-use Rattle.number.specs.Put.{put}
-use Rattle.px86.specs.Ask.{numberOf}
-use Rattle.say.specs.Said.{overText, refusedText, refusalText}
+use Rattle.say.specs.Said.{refusedText}
 use Rattle.say.proofs.Pieces.{refusal-over, refusal-other}
 use borrow.Author.Needs.{needs}
 use Rattle.say.proofs.print_refusal.Statement.{statement}
 use Rattle.say.proofs.print_refusal.Tie as tie
-use Rattle.say.proofs.print_refusal.Reads as reads
-use Rattle.say.proofs.print_refusal.Lts as lts
-use Rattle.line.proofs.wide.Reads as wide-reads
-use Rattle.px86.proofs.Refusal.number.Reads as number-reads
-use Rattle.say.proofs.print_over.Reads as print-over-reads
-use Rattle.say.proofs.print_refused.Reads as print-refused-reads
 
 enum-known-x : tie.Need-enum-known-x
 enum-known-x c = search needs

@@ -1,17 +1,11 @@
 -- `say::print_refused` meets its contract: its three lines stand one behind the other. Assumes nothing.
 use native.Mathlib.Omega.{arith}
-use mathlib.Core.List.{List}
-use Prim.Native.Nat.{ℕ}
 use Rattle.number.proofs.Put.{put-three}
 use Rattle.say.specs.Said.{number, answerKey, refusedWord, field, numberKey, lineKey, refusedText}
 use Rattle.say.proofs.Pieces.{at-front, refused-length}
 use borrow.Author.Needs.{needs}
 use Rattle.say.proofs.print_refused.Statement.{statement}
 use Rattle.say.proofs.print_refused.Tie as tie
-use Rattle.say.proofs.print_refused.Reads as reads
-use Rattle.say.proofs.print_refused.Lts as lts
-use Rattle.line.proofs.put_number_line.Reads as put-number-line-reads
-use Rattle.number.proofs.put_bytes.Reads as put-bytes-reads
 
 slice-aggregate-put-bytes : tie.Need-slice-aggregate-put-bytes
 slice-aggregate-put-bytes c = search needs

@@ -1,24 +1,17 @@
 -- `say::put_list` meets its contract. The loop's invariant: with the rest of the numbers put behind what was written, the buffer is what it
 -- is to be. Assumes nothing.
-use borrow.Author.Needs.{needs}
 use native.Mathlib.Omega.{arith}
 use mathlib.Core.Path.{_≡_, refl, sym, _∙_, ap}
-use mathlib.Core.List.{List, [], _∷_, _++_}
+use mathlib.Core.List.{List, _∷_}
 use Prim.Native.Nat.{ℕ, _≤_, _<_, _-_, _+_}
 use lib.ListN.{length, drop, getD, length-append}
 use Rattle.number.specs.Decimal.{decimal}
 use Rattle.number.specs.Put.{put}
 use Rattle.number.proofs.Put.{put-nil, put-then}
 use Rattle.line.specs.Join.{commaed}
-use Rattle.say.specs.Said.{listed}
 use Rattle.say.proofs.Pieces.{listed-none, listed-some, listed-length, comma-next, comma-length, comma-end}
 use Rattle.say.proofs.put_list.Statement.{statement}
 use Rattle.say.proofs.put_list.Tie as tie
-use Rattle.say.proofs.put_list.Reads as reads
-use Rattle.say.proofs.put_list.Lts as lts
-use Rattle.line.proofs.put_value.Reads as put-value-reads
-use Rattle.line.proofs.wide.Reads as wide-reads
-use Rattle.number.proofs.put_number.Reads as put-number-reads
 
 abbrev Inv-loop : tie.InvT-loop
 Inv-loop buf₀ at vals e₀ i₀ buf e i =

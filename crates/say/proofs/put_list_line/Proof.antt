@@ -1,17 +1,12 @@
 -- `say::put_list_line` meets its contract: its three pieces stand one behind the other. Assumes nothing.
 use native.Mathlib.Omega.{arith}
-use mathlib.Core.List.{List, [], _∷_}
-use Prim.Native.Nat.{ℕ}
+use mathlib.Core.List.{[], _∷_}
 use Rattle.number.proofs.Put.{put-three}
-use Rattle.say.specs.Said.{field, listed}
+use Rattle.say.specs.Said.{listed}
 use Rattle.say.proofs.Pieces.{field-length}
 use borrow.Author.Needs.{needs}
 use Rattle.say.proofs.put_list_line.Statement.{statement}
 use Rattle.say.proofs.put_list_line.Tie as tie
-use Rattle.say.proofs.put_list_line.Reads as reads
-use Rattle.say.proofs.put_list_line.Lts as lts
-use Rattle.number.proofs.put_bytes.Reads as put-bytes-reads
-use Rattle.say.proofs.put_list.Reads as put-list-reads
 
 put-bytes-requires : tie.Need-put-bytes-requires
 put-bytes-requires c κs = let a = c .before .before .before .before .args in omega (arith, field-length (a .w .now) (listed (a .vals .now)))

@@ -3,8 +3,8 @@
 use borrow.Author.Needs.{needs}
 use native.Mathlib.Omega.{arith}
 use mathlib.Core.Path.{_≡_, refl, sym, _∙_, ap}
-use mathlib.Core.List.{List, [], _∷_, _++_}
-use Prim.Native.Nat.{ℕ, _≤_, _<_, _-_, _+_, _*_}
+use mathlib.Core.List.{List}
+use Prim.Native.Nat.{ℕ, _≤_, _-_, _+_, _*_}
 use lib.ListN.{length, take, drop, replicate, length-append}
 use Rattle.tables.specs.Tables.{rows}
 use Rattle.number.specs.Put.{put}
@@ -13,9 +13,6 @@ use Rattle.say.specs.Said.{field, listed, memoryKey, memoryLines}
 use Rattle.say.proofs.Pieces.{lines-next, lines-length, lines-end, one-less}
 use Rattle.say.proofs.put_memories.Statement.{statement}
 use Rattle.say.proofs.put_memories.Tie as tie
-use Rattle.say.proofs.put_memories.Reads as reads
-use Rattle.say.proofs.put_memories.Lts as lts
-use Rattle.say.proofs.put_list_line.Reads as put-list-line-reads
 
 abbrev Inv-loop : tie.InvT-loop
 Inv-loop buf₀ at k w bytes e₀ a₀ left₀ t10 buf e a left =
