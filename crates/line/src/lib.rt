@@ -1,7 +1,7 @@
 // The parts of a text, and lines of one number or several, each judged as a part of the text by itself.
 use number::Number;
 ghost use mathlib.Core.Path.{_≡_};
-ghost use Prim.Native.Nat.{ℕ, _+_, _≤_, _<_};
+ghost use Prim.Native.Nat.{_+_, _≤_, _<_};
 ghost use mathlib.Core.List.{[], _∷_, _++_};
 ghost use lib.ListN.{length, drop, take};
 ghost use Rattle.number.specs.Capped.{largest};

@@ -3,7 +3,7 @@ use names::Budget;
 ghost use mathlib.Core.Path.{_≡_};
 ghost use Prim.Native.Nat.{_+_, _-_, _≤_};
 ghost use mathlib.Core.List.{_++_};
-ghost use lib.ListN.{length, take, drop, replicate};
+ghost use lib.ListN.{length, take, replicate};
 ghost use Rattle.number.specs.Decimal.{decimal, numberOf, reading};
 ghost use Rattle.number.specs.Capped.{capped};
 ghost use Rattle.number.specs.Put.{put};

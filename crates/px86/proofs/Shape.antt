@@ -10,7 +10,7 @@ use Rattle.tables.specs.Tables.{padded}
 use Rattle.program.specs.Program.{Prog}
 use Rattle.program.specs.declared.Op.{Op}
 use Rattle.program.specs.declared.Op.the-variants.{St, Sr, Ld, Cas, Faa, Mf, Sf, Fl, Fo, Bz}
-use Rattle.px86.specs.Machine.{Entry, Mark, Machine, from, start, moved, wrote, buffered, queued, persisted}
+use Rattle.px86.specs.Machine.{Entry, Mark, Machine, from, moved, wrote, buffered, queued, persisted}
 use Rattle.px86.specs.Machine.Entry.{store, fence, flush, flushopt}
 use Rattle.px86.specs.Machine.Mark.{write, opt}
 use Rattle.px86.specs.Step.{Puts, join, enqueue, locked, does, next, goes, leaves, persists, Sort, sort, sorted, step}
@@ -37,10 +37,6 @@ shape-from v h =
       queues = refl;
       memory = simp (length-append, length-replicate) (omega arith);
     }
-
-pub shape-start : Shape start
-unfolding start
-shape-start = shape-from [] (omega arith)
 
 -- what one part's change keeps
 kept : (m n : Machine) → length (n .places) ≡ length (m .places) → n .registers ≡ m .registers → length (n .buffers) ≡ length (m .buffers) → length (n .queues) ≡ length (m .queues) → length (n .memory) ≡ length (m .memory) → Shape m → Shape n

@@ -1,8 +1,8 @@
 // The walk: visiting a state and trying its codes from c upward call each other. The work left falls from a state to the next, and the codes
 // left from one code to the next.
 ghost use mathlib.Core.Path.{_≡_};
-ghost use mathlib.Core.List.{List, [], _∷_, _++_, foldl};
-ghost use Prim.Native.Nat.{ℕ, _+_, _≤_};
+ghost use mathlib.Core.List.{[], _∷_, _++_, foldl};
+ghost use Prim.Native.Nat.{_+_, _≤_};
 ghost use lib.ListN.{length, take};
 ghost use Rattle.program.specs.Program.{Prog};
 ghost use Rattle.px86.specs.Machine.{Machine};
@@ -23,8 +23,6 @@ use crate::note::is_going;
 use crate::note::note;
 use machine::registers::loaded;
 use machine::step::step;
-use program::Program;
-use state::State;
 use verdict::Verdict;
 
 // An allowed step lacks room: the answer is known.
