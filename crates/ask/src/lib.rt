@@ -1,4 +1,5 @@
-// The two questions: all memories, and one memory.
+// The two questions: all memories, and one memory. Relied on: both are doors; the answer and every byte of the lent buffer are the
+// definition's, whatever is asked.
 ghost use mathlib.Core.Path.{_≡_};
 ghost use mathlib.Core.Bool.{true};
 ghost use mathlib.Core.List.{[], foldl};

@@ -1,4 +1,5 @@
-// Following a list of codes.
+// Following a list of codes. Relied on: a door; the state after the codes is the definition's, or the refusal with the index of the first
+// code that is not allowed.
 ghost use mathlib.Core.Path.{_≡_};
 ghost use Rattle.px86.specs.Ask.{followed};
 ghost use Rattle.px86.specs.Ask.Told.{state, refused};

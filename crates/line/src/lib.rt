@@ -1,4 +1,5 @@
-// The parts of a text, and lines of one number or several, each judged as a part of the text by itself.
+// The parts of a text, and lines of one number or several, each judged as a part of the text by itself. Relied on: what a line is hangs on
+// its own bytes alone; a misshapen number is told before one outside its limit.
 use number::Number;
 ghost use mathlib.Core.Path.{_≡_};
 ghost use Prim.Native.Nat.{_+_, _≤_, _<_};

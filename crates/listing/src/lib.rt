@@ -1,4 +1,5 @@
-// A program as a listing: one number for each instruction, which the walk can lend where it would have to copy a program.
+// A program as a listing: one number for each instruction, which the walk can lend where it would have to copy a program. Relied on: the
+// listing of a legal program has its instructions, place by place, and no others.
 ghost use mathlib.Core.Path.{_≡_};
 ghost use mathlib.Core.Bool.{true};
 ghost use mathlib.Core.Option.{some};

@@ -1,4 +1,5 @@
-// Numbers as text: read from a part of a text, and written into a lent buffer.
+// Numbers as text: read from a part of a text, and written into a lent buffer. Relied on: decimal without leading zeros, both ways; a
+// number of many digits is over its limit, never wrapped; writing changes no other byte.
 use names::Budget;
 ghost use mathlib.Core.Path.{_≡_};
 ghost use Prim.Native.Nat.{_+_, _-_, _≤_};

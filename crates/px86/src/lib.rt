@@ -1,4 +1,5 @@
-// The Px86 machine of document 01 as definitions with their laws: see specs/ and proofs/. The code here is what is refused, and its numbers.
+// The Px86 machine of document 01 as definitions with their laws: see specs/ and proofs/. The code here is what is refused, and its
+// numbers. Relied on: specs/ is all that has to be believed of the machine; each law names what it holds of.
 ghost use mathlib.Core.Path.{_≡_};
 ghost use Rattle.px86.specs.Ask.{numberOf, valueOf};
 

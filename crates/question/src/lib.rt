@@ -1,4 +1,5 @@
-// A question that was read: the first bz that passes over its thread's end (refusal 5).
+// A question that was read: the first bz that passes over its thread's end (refusal 5). Relied on: the line told is that of the first such
+// bz, and where none is told there is none.
 ghost use mathlib.Core.Path.{_≡_};
 ghost use mathlib.Core.Bool.{true};
 ghost use Prim.Native.Nat.{_+_, _<_, _≤_};

@@ -1,4 +1,5 @@
-// What the program `bench` prints for a text: read, asked and printed.
+// What the program `bench` prints for a text: read, asked and printed. Relied on: a door; the printed bytes, their number and what the lent
+// room holds are fixed for any text.
 ghost use mathlib.Core.Path.{_≡_};
 ghost use mathlib.Core.Bool.{false};
 ghost use Prim.Native.Nat.{_≤_};

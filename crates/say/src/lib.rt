@@ -1,4 +1,5 @@
-// What the program prints for an answer, written at the front of a lent buffer.
+// What the program prints for an answer, written at the front of a lent buffer. Relied on: the bytes put are the text of the answer, and no
+// other byte changes.
 ghost use mathlib.Core.Path.{_≡_};
 ghost use mathlib.Core.List.{_++_};
 ghost use Prim.Native.Nat.{_+_, _*_, _≤_};

@@ -1,4 +1,5 @@
-// The op lines and the want line of the text, written into a lent buffer.
+// The op lines and the want line of the text, written into a lent buffer. Relied on: what is written is the table's text of the line, and
+// no other byte changes.
 use program::Op;
 use program::Want;
 ghost use mathlib.Core.Path.{_≡_};

@@ -1,4 +1,5 @@
-// The state of the machine: store buffers and persist queues in flat tables, places and memory. The registers stand beside it.
+// The state of the machine: store buffers and persist queues in flat tables, places and memory. The registers stand beside it. Relied on: a
+// valid state stands for one machine of px86, and equal machines are equal bytes.
 ghost use mathlib.Core.Path.{_≡_};
 ghost use mathlib.Core.List.{_++_, _∷_, []};
 ghost use Prim.Native.Nat.{_+_, _<_, _≤_};

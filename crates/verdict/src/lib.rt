@@ -1,4 +1,5 @@
-// Whether a code is allowed in a state. No state is changed or handed back here.
+// Whether a code is allowed in a state. No state is changed or handed back here. Relied on: `judge` says of every code from 0 to 255 what
+// the definition's step says, in every valid state.
 pub mod reads;
 
 ghost use mathlib.Core.Path.{_≡_};

@@ -1,4 +1,5 @@
-// The op lines and the want line of the text, by one table of words.
+// The op lines and the want line of the text, by one table of words. Relied on: a line is read as an instruction exactly if it is that
+// instruction's text in the table (specs/Words.antt) and keeps its limits.
 use line::Ranges;
 use line::Values;
 use names::Loc;

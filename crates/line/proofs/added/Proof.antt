@@ -1,3 +1,4 @@
+-- `line::added` meets its contract. Assumes nothing.
 use Prim.Native.Nat.{_≤_}
 -- `line::added` meets its contract: each arm is a clause of `extend`. Assumes nothing.
 use mathlib.Core.Path.{sym, _∙_, ap}

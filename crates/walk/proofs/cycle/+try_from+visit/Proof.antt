@@ -1,3 +1,4 @@
+-- `cycle::visit` and `cycle::try_from` meet their contracts: at each call the work left and the codes left fall. Assumes nothing.
 use mathlib.Core.Path.{_≡_, refl, sym, _∙_}
 use mathlib.Core.List.{_++_, _∷_, []}
 use lib.ListN.{length, take, length-set}
@@ -49,6 +50,31 @@ visit-at t = and 3 visit-kinds.ps (is 3 visit-kinds.ps μ-visit t) visit.Pre
 abbrev visit-below : ℕ → In 3 visit-kinds.ps
 visit-below t = and 3 visit-kinds.ps (falls 3 visit-kinds.ps _<_ μ-visit t) visit.Pre
 
+-- what each function relies on of those that it calls
+abbrev try-from-claims : ℕ → try-from-lts.Claims
+try-from-claims t = (
+  is-going-reads.Asked,
+  is-going-reads.Learnt,
+  next-from-reads.Asked,
+  next-from-reads.Learnt,
+  filled-reads.Asked,
+  filled-reads.Learnt,
+  visit-below t,
+  visit.Post,
+)
+
+abbrev visit-claims : ℕ → visit-lts.Claims
+visit-claims t = (
+  step-reads.Asked,
+  step-reads.Learnt,
+  loaded-reads.Asked,
+  loaded-reads.Learnt,
+  note-reads.Asked,
+  note-reads.Learnt,
+  try-from-below t,
+  try-from.Post,
+)
+
 abbrev try-from-Inv-loop : try-from-lts.InvT-loop
 try-from-Inv-loop list q queued queues buffered buffers places memory g c d path₀ out₀ v₀ k₀ path out v k =
     ((a : Tally) → Holds q v₀ out₀ a → Between list q (held queued queues buffered buffers places memory) g (take d path₀) a c k v out)
@@ -57,238 +83,68 @@ try-from-Inv-loop list q queued queues buffered buffers places memory g c d path
 abbrev try-from-μ-loop : try-from-lts.MeasureT-loop
 try-from-μ-loop list q queued queues buffered buffers places memory g c d path₀ out₀ v₀ k₀ path out v k = codes - k
 
--- src/cycle.rt:127:5
-try-from-loop-holds : (t : ℕ) → try-from-lts.Need-loop-holds (
-  is-going-reads.Asked,
-  is-going-reads.Learnt,
-  next-from-reads.Asked,
-  next-from-reads.Learnt,
-  filled-reads.Asked,
-  filled-reads.Learnt,
-  visit-below t,
-  visit.Post,
-) (try-from-at t) try-from.Post try-from-Inv-loop try-from-μ-loop
+try-from-loop-holds : (t : ℕ) → try-from-lts.Need-loop-holds (try-from-claims t) (try-from-at t) try-from.Post try-from-Inv-loop try-from-μ-loop
 try-from-loop-holds t c = (λ a h. at-first _ _ _ _ (c .before .before .pre .1 .0) _ a _ _ _ h, refl, refl, refl, c .before .before .pre .1 .1 .1, omega arith)
 
--- src/cycle.rt:129:12
-try-from-is-going-requires : (t : ℕ) → try-from-lts.Need-is-going-requires (
-  is-going-reads.Asked,
-  is-going-reads.Learnt,
-  next-from-reads.Asked,
-  next-from-reads.Learnt,
-  filled-reads.Asked,
-  filled-reads.Learnt,
-  visit-below t,
-  visit.Post,
-) (try-from-at t) try-from.Post try-from-Inv-loop try-from-μ-loop
+try-from-is-going-requires : (t : ℕ) → try-from-lts.Need-is-going-requires (try-from-claims t) (try-from-at t) try-from.Post try-from-Inv-loop try-from-μ-loop
 try-from-is-going-requires t c κs = tt
 
--- src/cycle.rt:130:13
-try-from-same-length : (t : ℕ) → try-from-lts.Need-same-length (
-  is-going-reads.Asked,
-  is-going-reads.Learnt,
-  next-from-reads.Asked,
-  next-from-reads.Learnt,
-  filled-reads.Asked,
-  filled-reads.Learnt,
-  visit-below t,
-  visit.Post,
-) (try-from-at t) try-from.Post try-from-Inv-loop try-from-μ-loop
+try-from-same-length : (t : ℕ) → try-from-lts.Need-same-length (try-from-claims t) (try-from-at t) try-from.Post try-from-Inv-loop try-from-μ-loop
 try-from-same-length t c = c .before .before .loop .inv .2
 
--- src/cycle.rt:130:13
-try-from-same-length-2 : (t : ℕ) → try-from-lts.Need-same-length-2 (
-  is-going-reads.Asked,
-  is-going-reads.Learnt,
-  next-from-reads.Asked,
-  next-from-reads.Learnt,
-  filled-reads.Asked,
-  filled-reads.Learnt,
-  visit-below t,
-  visit.Post,
-) (try-from-at t) try-from.Post try-from-Inv-loop try-from-μ-loop
+try-from-same-length-2 : (t : ℕ) → try-from-lts.Need-same-length-2 (try-from-claims t) (try-from-at t) try-from.Post try-from-Inv-loop try-from-μ-loop
 try-from-same-length-2 t c = c .before .before .loop .inv .3
 
--- src/cycle.rt:130:13
-try-from-returns : (t : ℕ) → try-from-lts.Need-returns (
-  is-going-reads.Asked,
-  is-going-reads.Learnt,
-  next-from-reads.Asked,
-  next-from-reads.Learnt,
-  filled-reads.Asked,
-  filled-reads.Learnt,
-  visit-below t,
-  visit.Post,
-) (try-from-at t) try-from.Post try-from-Inv-loop try-from-μ-loop
+try-from-returns : (t : ℕ) → try-from-lts.Need-returns (try-from-claims t) (try-from-at t) try-from.Post try-from-Inv-loop try-from-μ-loop
 try-from-returns t c =
     let l = c .before .before in
     let x = l .before .before .before in
     (λ a h. stopped _ _ _ _ (x .pre .1 .0) _ a _ _ _ _ (l .loop .inv .0 a h) (sym (c .before .is-going .ensures) ∙ c .if1 .left), l .loop .inv .1)
 
--- src/cycle.rt:132:13
-try-from-next-from-requires : (t : ℕ) → try-from-lts.Need-next-from-requires (
-  is-going-reads.Asked,
-  is-going-reads.Learnt,
-  next-from-reads.Asked,
-  next-from-reads.Learnt,
-  filled-reads.Asked,
-  filled-reads.Learnt,
-  visit-below t,
-  visit.Post,
-) (try-from-at t) try-from.Post try-from-Inv-loop try-from-μ-loop
+try-from-next-from-requires : (t : ℕ) → try-from-lts.Need-next-from-requires (try-from-claims t) (try-from-at t) try-from.Post try-from-Inv-loop try-from-μ-loop
 try-from-next-from-requires t c κs =
     let l = c .before .before in
     let x = l .before .before .before in
     ((x .pre .1 .0 .sound, x .pre .1 .0 .state), (x .pre .1 .0 .few, x .pre .1 .0 .beyond, l .loop .inv .4))
 
--- src/cycle.rt:147:17
-try-from-enum-told : (t : ℕ) → try-from-lts.Need-enum-told (
-  is-going-reads.Asked,
-  is-going-reads.Learnt,
-  next-from-reads.Asked,
-  next-from-reads.Learnt,
-  filled-reads.Asked,
-  filled-reads.Learnt,
-  visit-below t,
-  visit.Post,
-) (try-from-at t) try-from.Post try-from-Inv-loop try-from-μ-loop
+try-from-enum-told : (t : ℕ) → try-from-lts.Need-enum-told (try-from-claims t) (try-from-at t) try-from.Post try-from-Inv-loop try-from-μ-loop
 try-from-enum-told t c = search needs
 
--- src/cycle.rt:147:17
-try-from-same-length-3 : (t : ℕ) → try-from-lts.Need-same-length-3 (
-  is-going-reads.Asked,
-  is-going-reads.Learnt,
-  next-from-reads.Asked,
-  next-from-reads.Learnt,
-  filled-reads.Asked,
-  filled-reads.Learnt,
-  visit-below t,
-  visit.Post,
-) (try-from-at t) try-from.Post try-from-Inv-loop try-from-μ-loop
+try-from-same-length-3 : (t : ℕ) → try-from-lts.Need-same-length-3 (try-from-claims t) (try-from-at t) try-from.Post try-from-Inv-loop try-from-μ-loop
 try-from-same-length-3 t c = c .before .before .before .before .before .loop .inv .2
 
--- src/cycle.rt:147:17
-try-from-same-length-4 : (t : ℕ) → try-from-lts.Need-same-length-4 (
-  is-going-reads.Asked,
-  is-going-reads.Learnt,
-  next-from-reads.Asked,
-  next-from-reads.Learnt,
-  filled-reads.Asked,
-  filled-reads.Learnt,
-  visit-below t,
-  visit.Post,
-) (try-from-at t) try-from.Post try-from-Inv-loop try-from-μ-loop
+try-from-same-length-4 : (t : ℕ) → try-from-lts.Need-same-length-4 (try-from-claims t) (try-from-at t) try-from.Post try-from-Inv-loop try-from-μ-loop
 try-from-same-length-4 t c = c .before .before .before .before .before .loop .inv .3
 
--- src/cycle.rt:147:17
-try-from-returns-2 : (t : ℕ) → try-from-lts.Need-returns-2 (
-  is-going-reads.Asked,
-  is-going-reads.Learnt,
-  next-from-reads.Asked,
-  next-from-reads.Learnt,
-  filled-reads.Asked,
-  filled-reads.Learnt,
-  visit-below t,
-  visit.Post,
-) (try-from-at t) try-from.Post try-from-Inv-loop try-from-μ-loop
+try-from-returns-2 : (t : ℕ) → try-from-lts.Need-returns-2 (try-from-claims t) (try-from-at t) try-from.Post try-from-Inv-loop try-from-μ-loop
 try-from-returns-2 t c =
     let l = c .before .before .before .before .before in
     let x = l .before .before .before in
     (λ a h. passed _ _ _ _ (x .pre .1 .0) _ a _ _ _ _ (l .loop .inv .0 a h) _ (c .before .before .next-from .ensures) (c .enum-told .given .1), l .loop .inv .1)
 
--- src/cycle.rt:150:17
-try-from-enum-told-2 : (t : ℕ) → try-from-lts.Need-enum-told-2 (
-  is-going-reads.Asked,
-  is-going-reads.Learnt,
-  next-from-reads.Asked,
-  next-from-reads.Learnt,
-  filled-reads.Asked,
-  filled-reads.Learnt,
-  visit-below t,
-  visit.Post,
-) (try-from-at t) try-from.Post try-from-Inv-loop try-from-μ-loop
+try-from-enum-told-2 : (t : ℕ) → try-from-lts.Need-enum-told-2 (try-from-claims t) (try-from-at t) try-from.Post try-from-Inv-loop try-from-μ-loop
 try-from-enum-told-2 t c = search needs
 
--- src/cycle.rt:150:17
-try-from-filled-requires : (t : ℕ) → try-from-lts.Need-filled-requires (
-  is-going-reads.Asked,
-  is-going-reads.Learnt,
-  next-from-reads.Asked,
-  next-from-reads.Learnt,
-  filled-reads.Asked,
-  filled-reads.Learnt,
-  visit-below t,
-  visit.Post,
-) (try-from-at t) try-from.Post try-from-Inv-loop try-from-μ-loop
+try-from-filled-requires : (t : ℕ) → try-from-lts.Need-filled-requires (try-from-claims t) (try-from-at t) try-from.Post try-from-Inv-loop try-from-μ-loop
 try-from-filled-requires t c κs = tt
 
--- src/cycle.rt:150:17
-try-from-same-length-5 : (t : ℕ) → try-from-lts.Need-same-length-5 (
-  is-going-reads.Asked,
-  is-going-reads.Learnt,
-  next-from-reads.Asked,
-  next-from-reads.Learnt,
-  filled-reads.Asked,
-  filled-reads.Learnt,
-  visit-below t,
-  visit.Post,
-) (try-from-at t) try-from.Post try-from-Inv-loop try-from-μ-loop
+try-from-same-length-5 : (t : ℕ) → try-from-lts.Need-same-length-5 (try-from-claims t) (try-from-at t) try-from.Post try-from-Inv-loop try-from-μ-loop
 try-from-same-length-5 t c = c .before .before .before .before .before .before .loop .inv .2
 
--- src/cycle.rt:150:17
-try-from-same-length-6 : (t : ℕ) → try-from-lts.Need-same-length-6 (
-  is-going-reads.Asked,
-  is-going-reads.Learnt,
-  next-from-reads.Asked,
-  next-from-reads.Learnt,
-  filled-reads.Asked,
-  filled-reads.Learnt,
-  visit-below t,
-  visit.Post,
-) (try-from-at t) try-from.Post try-from-Inv-loop try-from-μ-loop
+try-from-same-length-6 : (t : ℕ) → try-from-lts.Need-same-length-6 (try-from-claims t) (try-from-at t) try-from.Post try-from-Inv-loop try-from-μ-loop
 try-from-same-length-6 t c = c .before .before .before .before .before .before .loop .inv .3
 
--- src/cycle.rt:150:17
-try-from-returns-3 : (t : ℕ) → try-from-lts.Need-returns-3 (
-  is-going-reads.Asked,
-  is-going-reads.Learnt,
-  next-from-reads.Asked,
-  next-from-reads.Learnt,
-  filled-reads.Asked,
-  filled-reads.Learnt,
-  visit-below t,
-  visit.Post,
-) (try-from-at t) try-from.Post try-from-Inv-loop try-from-μ-loop
+try-from-returns-3 : (t : ℕ) → try-from-lts.Need-returns-3 (try-from-claims t) (try-from-at t) try-from.Post try-from-Inv-loop try-from-μ-loop
 try-from-returns-3 t c =
     let l = c .before .before .before .before .before .before in
     let x = l .before .before .before in
     let going = is-going _ (sym (c .before .before .before .before .before .is-going .ensures) ∙ c .before .before .before .before .if1 .taken) in
     (λ a h. filled _ _ _ _ (x .pre .1 .0) _ a _ _ _ _ (l .loop .inv .0 a h) _ (c .before .before .before .next-from .ensures) going (c .filled .result) (c .filled .ensures) (c .before .enum-told2 .given .1), l .loop .inv .1)
 
--- src/cycle.rt:166:21
-try-from-enum-told-3 : (t : ℕ) → try-from-lts.Need-enum-told-3 (
-  is-going-reads.Asked,
-  is-going-reads.Learnt,
-  next-from-reads.Asked,
-  next-from-reads.Learnt,
-  filled-reads.Asked,
-  filled-reads.Learnt,
-  visit-below t,
-  visit.Post,
-) (try-from-at t) try-from.Post try-from-Inv-loop try-from-μ-loop
+try-from-enum-told-3 : (t : ℕ) → try-from-lts.Need-enum-told-3 (try-from-claims t) (try-from-at t) try-from.Post try-from-Inv-loop try-from-μ-loop
 try-from-enum-told-3 t c = search needs
 
--- src/cycle.rt:153:17
-try-from-visit-requires : (t : ℕ) → try-from-lts.Need-visit-requires (
-  is-going-reads.Asked,
-  is-going-reads.Learnt,
-  next-from-reads.Asked,
-  next-from-reads.Learnt,
-  filled-reads.Asked,
-  filled-reads.Learnt,
-  visit-below t,
-  visit.Post,
-) (try-from-at t) try-from.Post try-from-Inv-loop try-from-μ-loop
+try-from-visit-requires : (t : ℕ) → try-from-lts.Need-visit-requires (try-from-claims t) (try-from-at t) try-from.Post try-from-Inv-loop try-from-μ-loop
 try-from-visit-requires t c κs =
     let l = c .before .before .before .before .before .before .before in
     let x = l .before .before .before in
@@ -297,47 +153,17 @@ try-from-visit-requires t c κs =
     let below = allowed-below _ _ _ _ first yes′ in
     (omega (arith, x .pre .0, below, first .upto .from, l .loop .inv .5), (x .pre .1 .0, (first-allowed _ _ _ _ first yes′, (omega (arith, x .pre .1 .1 .0, l .loop .inv .2), omega (arith, below)))))
 
--- src/cycle.rt:169:17
-try-from-add-k : (t : ℕ) → try-from-lts.Need-add-k (
-  is-going-reads.Asked,
-  is-going-reads.Learnt,
-  next-from-reads.Asked,
-  next-from-reads.Learnt,
-  filled-reads.Asked,
-  filled-reads.Learnt,
-  visit-below t,
-  visit.Post,
-) (try-from-at t) try-from.Post try-from-Inv-loop try-from-μ-loop
+try-from-add-k : (t : ℕ) → try-from-lts.Need-add-k (try-from-claims t) (try-from-at t) try-from.Post try-from-Inv-loop try-from-μ-loop
 try-from-add-k t c =
     let first = c .before .before .before .before .before .before .before .before .before .next-from .ensures in
     omega (arith, allowed-below _ _ _ _ first (c .before .before .before .before .before .before .before .enum-told3 .given .1))
 
--- src/cycle.rt:127:5
-try-from-loop-less : (t : ℕ) → try-from-lts.Need-loop-less (
-  is-going-reads.Asked,
-  is-going-reads.Learnt,
-  next-from-reads.Asked,
-  next-from-reads.Learnt,
-  filled-reads.Asked,
-  filled-reads.Learnt,
-  visit-below t,
-  visit.Post,
-) (try-from-at t) try-from.Post try-from-Inv-loop try-from-μ-loop
+try-from-loop-less : (t : ℕ) → try-from-lts.Need-loop-less (try-from-claims t) (try-from-at t) try-from.Post try-from-Inv-loop try-from-μ-loop
 try-from-loop-less t c =
     let first = c .before .before .before .before .before .before .before .before .before .next-from .ensures in
     omega (arith, allowed-below _ _ _ _ first (c .before .before .before .before .before .before .before .enum-told3 .given .1), first .upto .from)
 
--- src/cycle.rt:127:5
-try-from-loop-again : (t : ℕ) → try-from-lts.Need-loop-again (
-  is-going-reads.Asked,
-  is-going-reads.Learnt,
-  next-from-reads.Asked,
-  next-from-reads.Learnt,
-  filled-reads.Asked,
-  filled-reads.Learnt,
-  visit-below t,
-  visit.Post,
-) (try-from-at t) try-from.Post try-from-Inv-loop try-from-μ-loop
+try-from-loop-again : (t : ℕ) → try-from-lts.Need-loop-again (try-from-claims t) (try-from-at t) try-from.Post try-from-Inv-loop try-from-μ-loop
 try-from-loop-again t c =
     let l = c .before .before .before .before .before .before .before .before .before .before .before .before in
     let x = l .before .before .before in
@@ -346,148 +172,48 @@ try-from-loop-again t c =
     let v = c .before .before .before .before in
     (λ a h. taken _ _ _ _ (x .pre .1 .0) _ a _ _ _ _ (l .loop .inv .0 a h) _ first yes′ _ _ _ (l .loop .inv .1) (v .visit .ensures .0), v .visit .ensures .1 ∙ l .loop .inv .1, v .visit .kept .1 .1 .1 .1 .1 .1 .1 .1 .1 .1 .1 .1 .0 ∙ l .loop .inv .2, v .visit .kept .1 .1 .1 .1 .1 .1 .1 .1 .1 .1 .1 .1 .1 .0 ∙ l .loop .inv .3, omega (arith, allowed-below _ _ _ _ first yes′), omega (arith, l .loop .inv .5, first .upto .from))
 
--- src/cycle.rt:71:9
-visit-step-requires : (t : ℕ) → visit-lts.Need-step-requires (
-  step-reads.Asked,
-  step-reads.Learnt,
-  loaded-reads.Asked,
-  loaded-reads.Learnt,
-  note-reads.Asked,
-  note-reads.Learnt,
-  try-from-below t,
-  try-from.Post,
-) (visit-at t) visit.Post
+visit-step-requires : (t : ℕ) → visit-lts.Need-step-requires (visit-claims t) (visit-at t) visit.Post
 visit-step-requires t c κs =
     let x = c .before .before .before .before .before .before .before .before .before .before .before .before .before .before in
     ((x .pre .1 .0 .sound, x .pre .1 .0 .state), x .pre .1 .1 .0)
 
--- src/cycle.rt:82:9
-visit-loaded-requires : (t : ℕ) → visit-lts.Need-loaded-requires (
-  step-reads.Asked,
-  step-reads.Learnt,
-  loaded-reads.Asked,
-  loaded-reads.Learnt,
-  note-reads.Asked,
-  note-reads.Learnt,
-  try-from-below t,
-  try-from.Post,
-) (visit-at t) visit.Post
+visit-loaded-requires : (t : ℕ) → visit-lts.Need-loaded-requires (visit-claims t) (visit-at t) visit.Post
 visit-loaded-requires t c κs = c .step .ensures _ (c .before .before .before .before .before .before .before .before .before .before .before .before .before .before .before .pre .1 .0 .lists) .load-in
 
--- src/cycle.rt:83:5
-visit-slice-write-path : (t : ℕ) → visit-lts.Need-slice-write-path (
-  step-reads.Asked,
-  step-reads.Learnt,
-  loaded-reads.Asked,
-  loaded-reads.Learnt,
-  note-reads.Asked,
-  note-reads.Learnt,
-  try-from-below t,
-  try-from.Post,
-) (visit-at t) visit.Post
+visit-slice-write-path : (t : ℕ) → visit-lts.Need-slice-write-path (visit-claims t) (visit-at t) visit.Post
 visit-slice-write-path t c =
     let x = c .before .before .before .before .before .before .before .before .before .before .before .before .before .before .before .before in
     omega (arith, x .pre .1 .1 .1 .0, has-work _ _ _ _ (x .pre .1 .0) _ (x .pre .1 .1 .0 _ _ (x .pre .1 .0 .lists)))
 
--- src/cycle.rt:84:38
-visit-add-note : (t : ℕ) → visit-lts.Need-add-note (
-  step-reads.Asked,
-  step-reads.Learnt,
-  loaded-reads.Asked,
-  loaded-reads.Learnt,
-  note-reads.Asked,
-  note-reads.Learnt,
-  try-from-below t,
-  try-from.Post,
-) (visit-at t) visit.Post
+visit-add-note : (t : ℕ) → visit-lts.Need-add-note (visit-claims t) (visit-at t) visit.Post
 visit-add-note t c =
     let x = c .before .before .before .before .before .before .before .before .before .before .before .before .before .before .before .before .before in
     omega (arith, x .pre .1 .1 .1 .0, has-work _ _ _ _ (x .pre .1 .0) _ (x .pre .1 .1 .0 _ _ (x .pre .1 .0 .lists)), x .good .1 .1 .1 .1 .1 .1 .1 .1 .1 .1 .1 .1 .0 .0)
 
--- src/cycle.rt:84:9
-visit-note-requires : (t : ℕ) → visit-lts.Need-note-requires (
-  step-reads.Asked,
-  step-reads.Learnt,
-  loaded-reads.Asked,
-  loaded-reads.Learnt,
-  note-reads.Asked,
-  note-reads.Learnt,
-  try-from-below t,
-  try-from.Post,
-) (visit-at t) visit.Post
+visit-note-requires : (t : ℕ) → visit-lts.Need-note-requires (visit-claims t) (visit-at t) visit.Post
 visit-note-requires t c κs =
     let x = c .before .before .before .before .before .before .before .before .before .before .before .before .before .before .before .before .before .before in
     (x .pre .1 .0 .asks, simp length-set (omega (arith, x .pre .1 .1 .1 .0, has-work _ _ _ _ (x .pre .1 .0) _ (x .pre .1 .1 .0 _ _ (x .pre .1 .0 .lists)))))
 
--- src/cycle.rt:96:9
-visit-add-try-from : (t : ℕ) → visit-lts.Need-add-try-from (
-  step-reads.Asked,
-  step-reads.Learnt,
-  loaded-reads.Asked,
-  loaded-reads.Learnt,
-  note-reads.Asked,
-  note-reads.Learnt,
-  try-from-below t,
-  try-from.Post,
-) (visit-at t) visit.Post
+visit-add-try-from : (t : ℕ) → visit-lts.Need-add-try-from (visit-claims t) (visit-at t) visit.Post
 visit-add-try-from t c =
     let x = c .before .before .before .before .before .before .before .before .before .before .before .before .before .before .before .before .before .before .before .before .before .before .before .before .before .before .before in
     omega (arith, x .pre .1 .1 .1 .0, has-work _ _ _ _ (x .pre .1 .0) _ (x .pre .1 .1 .0 _ _ (x .pre .1 .0 .lists)), x .good .1 .1 .1 .1 .1 .1 .1 .1 .1 .1 .1 .1 .0 .0)
 
--- src/cycle.rt:85:5
-visit-try-from-requires : (t : ℕ) → visit-lts.Need-try-from-requires (
-  step-reads.Asked,
-  step-reads.Learnt,
-  loaded-reads.Asked,
-  loaded-reads.Learnt,
-  note-reads.Asked,
-  note-reads.Learnt,
-  try-from-below t,
-  try-from.Post,
-) (visit-at t) visit.Post
+visit-try-from-requires : (t : ℕ) → visit-lts.Need-try-from-requires (visit-claims t) (visit-at t) visit.Post
 visit-try-from-requires t c κs =
     let x = c .before .before .before .before .before .before .before .before .before .before .before .before .before .before .before .before .before .before .before .before .before .before .before .before .before .before .before .before .before in
     let t = c .before .before .before .before .before .before .before .before .before .before .before .before .before .before .step .ensures _ (x .pre .1 .0 .lists) in
     let less = falls-on _ _ _ _ (x .pre .1 .0) _ _ _ t _ (c .before .before .before .before .before .before .before .before .before .before .before .before .before .loaded .ensures) in
     (omega (arith, x .pre .0, less), (walks-on _ _ _ _ (x .pre .1 .0) _ _ _ t _ (c .before .before .before .before .before .before .before .before .before .before .before .before .before .loaded .ensures), (simp length-set (omega (arith, x .pre .1 .1 .1 .0, less)), omega arith)))
 
--- src/cycle.rt:43:1
-visit-same-length : (t : ℕ) → visit-lts.Need-same-length (
-  step-reads.Asked,
-  step-reads.Learnt,
-  loaded-reads.Asked,
-  loaded-reads.Learnt,
-  note-reads.Asked,
-  note-reads.Learnt,
-  try-from-below t,
-  try-from.Post,
-) (visit-at t) visit.Post
+visit-same-length : (t : ℕ) → visit-lts.Need-same-length (visit-claims t) (visit-at t) visit.Post
 visit-same-length t c = c .before .before .before .before .try-from .kept .1 .1 .1 .1 .1 .1 .1 .1 .1 .1 .1 .1 .0 ∙ simp length-set
 
--- src/cycle.rt:43:1
-visit-same-length-2 : (t : ℕ) → visit-lts.Need-same-length-2 (
-  step-reads.Asked,
-  step-reads.Learnt,
-  loaded-reads.Asked,
-  loaded-reads.Learnt,
-  note-reads.Asked,
-  note-reads.Learnt,
-  try-from-below t,
-  try-from.Post,
-) (visit-at t) visit.Post
+visit-same-length-2 : (t : ℕ) → visit-lts.Need-same-length-2 (visit-claims t) (visit-at t) visit.Post
 visit-same-length-2 t c = c .before .before .before .before .try-from .kept .1 .1 .1 .1 .1 .1 .1 .1 .1 .1 .1 .1 .1 .0 ∙ c .before .before .before .before .before .before .before .before .before .before .before .before .before .before .before .note .kept .1 .1 .1 .1 .1 .0
 
--- src/cycle.rt:43:1
-visit-returns : (t : ℕ) → visit-lts.Need-returns (
-  step-reads.Asked,
-  step-reads.Learnt,
-  loaded-reads.Asked,
-  loaded-reads.Learnt,
-  note-reads.Asked,
-  note-reads.Learnt,
-  try-from-below t,
-  try-from.Post,
-) (visit-at t) visit.Post
+visit-returns : (t : ℕ) → visit-lts.Need-returns (visit-claims t) (visit-at t) visit.Post
 visit-returns t c =
     let x = c .before .before .before .before .before .before .before .before .before .before .before .before .before .before .before .before .before .before .before .before .before .before .before .before .before .before .before .before .before .before .before .before .before .before in
     let ok = x .pre .1 .0 in
