@@ -1,6 +1,5 @@
--- `line::added` meets its contract. Assumes nothing.
-use Prim.Native.Nat.{_≤_}
 -- `line::added` meets its contract: each arm is a clause of `extend`. Assumes nothing.
+use Prim.Native.Nat.{_≤_}
 use mathlib.Core.Path.{sym, _∙_, ap}
 use native.Mathlib.Omega.{arith}
 use lib.ListN.{set}
