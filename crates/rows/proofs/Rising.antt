@@ -77,7 +77,7 @@ unfolding Rises
 leads r [] h = tt
 leads r (s ∷ l) h = h .0
 
-rest : (r : List ℕ) (l : List (List ℕ)) → Rises (r ∷ l) → Rises l
+pub rest : (r : List ℕ) (l : List (List ℕ)) → Rises (r ∷ l) → Rises l
 unfolding Rises
 rest r [] h = tt
 rest r (s ∷ l) h = h .1
@@ -109,7 +109,7 @@ insert-rises m (r ∷ l) h = go (same m r) (before m r) refl refl (insert-rises 
     go false false e f k = joins r (insert m l) (insert-leads r m l (before-turn m r e f) (leads r l h)) k
 
 -- the first row is before all others
-first : (r : List ℕ) (l : List (List ℕ)) → Rises (r ∷ l) → (m : List ℕ) → List·Memᴰ m l → before r m ≡ true
+pub first : (r : List ℕ) (l : List (List ℕ)) → Rises (r ∷ l) → (m : List ℕ) → List·Memᴰ m l → before r m ≡ true
 unfolding Rises
 first r [] h m i = absurd (List·Memᴰ·not-nil i)
 first r (s ∷ l) h m i = ⊎-elim (λ e. rw e (h .0)) (λ j. before-trans r s m (h .0) (first s l (h .1) m j)) (List·Memᴰ·cases-cons i)
