@@ -19,7 +19,7 @@ use Rattle.px86.specs.Runs.Event.{run}
 use Rattle.px86.specs.Ask.{same, before, insert, Answer, Tally, gather, seek}
 use Rattle.px86.specs.Ask.Answer.{every, reached, never, none}
 use Rattle.px86.specs.Ask.Tally.{going, known}
-use Rattle.rows.specs.Rows.{flat, Front, Inserted}
+use Rattle.rows.specs.Rows.{flat, Rises, Front, Inserted}
 use Rattle.rows.proofs.Kept.{insert-wide}
 use Rattle.rows.proofs.Rising.{insert-rises}
 use Rattle.walk.specs.declared.note.Asking.{Asking}
@@ -108,7 +108,7 @@ module _ (q : Asking) (w : Walked) (o m : List ℕ) (e : length m ≡ q .locs) (
   pub list-never : w .long ≡ false → length o < w .used → Going q (counted w true (w .used)) o (w .count + 1) (insert m ms)
   list-never l k = absurd (omega (arith, h .short l .1))
 
-  module _ (short : w .long ≡ false) (r : ℕ) (o′ : List ℕ) (puts : (l : List (List ℕ)) → Front (length m) (w .used) o l → Inserted m l r o o′) where
+  module _ (short : w .long ≡ false) (r : ℕ) (o′ : List ℕ) (puts : (l : List (List ℕ)) → Front (length m) (w .used) o l → Rises l → Inserted m l r o o′) where
     in-front : Front (length m) (w .used) o ms
     unfolding padded
     in-front =
@@ -120,7 +120,7 @@ module _ (q : Asking) (w : Walked) (o m : List ℕ) (e : length m ≡ q .locs) (
 
     pub list-full : length o < r → Going q (counted w true (w .used)) o′ (w .count + 1) (insert m ms)
     list-full k =
-        let put-in = puts ms in-front in
+        let put-in = puts ms in-front (h .rises) in
         rw (put-in .none k)
         (record {
           status = refl;
@@ -135,7 +135,7 @@ module _ (q : Asking) (w : Walked) (o m : List ℕ) (e : length m ≡ q .locs) (
 
     pub list-put : r ≤ length o → Going q (counted w false r) o′ (w .count + 1) (insert m ms)
     list-put k =
-        let put-in = puts ms in-front in
+        let put-in = puts ms in-front (h .rises) in
         let s = h .short short in
         record {
           status = refl;
