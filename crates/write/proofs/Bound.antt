@@ -36,11 +36,11 @@ ops-long locs [] h w = omega (arith, none-long)
 ops-long locs (o ∷ os) h w = omega (arith, line-long (opText o) (map opText os), op-short locs o h (w .0), ops-long locs os h (w .1))
 
 -- a thread: its line of nine bytes, and eight op lines
-pub threads-none : (k : ℕ) → length (unlines (threadLines k [])) ≡ 0
+threads-none : (k : ℕ) → length (unlines (threadLines k [])) ≡ 0
 unfolding threadLines
 threads-none k = none-long
 
-pub threads-more :
+threads-more :
     (k : ℕ) (os : List Op) (oss : List (List Op))
     → length (unlines (threadLines k (os ∷ oss))) ≡ length (threadKey ++ decimal k) + 1 + (length (unlines (map opText os)) + length (unlines (threadLines (k + 1) oss)))
 unfolding threadLines

@@ -1,4 +1,5 @@
--- What follows for a question that code can hold once `write` accepts it: it is legal, and what it wants fits. Assumes nothing.
+-- What follows for a question that code can hold once `write` accepts it: it is legal, what it wants fits, and its text is short.
+-- Assumes nothing.
 use Prim.Native.Nat.{ℕ, zero, suc, _-_, _≤_}
 use mathlib.Core.Path.{_≡_, refl, _∙_}
 use mathlib.Core.Bool.{Bool, true, false}
@@ -81,7 +82,7 @@ pub held-want : (q : Question) → Held q → wantsRight q ≡ true → WantFits
 unfolding wantedOf
 held-want q h r = want-held (q .want .all) (q .want .count) (q .program .locs) (q .want .values) (h .values) r
 
--- its text fits an array of the longest text's length
+-- its text is no longer than the longest
 pub held-short : (q : Question) → Held q → legalAsked (q .program) (q .budget) ≡ true → wantsRight q ≡ true → length (textIn q) ≤ longestText
 held-short q h l r = text-long (standsFor q) (stands-fitting q (h .sizes) l (held-want q h r) (held-threads q h))
 

@@ -97,7 +97,7 @@ pub fn write(q: Question, out: &mut [u8]) -> Wrote
     if !wants_right(w, p.locs) {
         return Wrote::Refused(Refusal::WrongWant);
     }
-    // the longest text has 708 bytes
+    // the text is made here first, so that 9 leaves the lent buffer as it is; the longest has 708 bytes
     let mut text = [0u8; 708];
     let e = put_head(&mut text, q);
     let n = put_threads(&mut text, e, p);

@@ -1,4 +1,4 @@
--- `write::write` meets its contract: the whole text stands in the array, and what is copied of it is the text. Assumes nothing.
+-- `write::write` meets its contract: the whole text stands at the front of the array, and just that is copied. Assumes nothing.
 use native.Mathlib.Omega.{arith}
 use mathlib.Core.Path.{_≡_, sym, _∙_, ap}
 use mathlib.Core.Bool.{true}
@@ -22,30 +22,28 @@ use Rattle.write.proofs.Pieces.{Written, text-pieces, put-front, known-
 use Rattle.write.proofs.write.Statement.{statement}
 use Rattle.write.proofs.write.Tie as tie
 
--- the question that is handed over, once 6 and 7 are ruled out
-abbrev start : tie.Else2 → tie.Start
-start c = c .before .before .before .before .before .before .before .before
+-- the question that is handed over, once 6 is ruled out, and once 7 is
+abbrev start : tie.Else1 → tie.Start
+start c = c .before .before .before .before .before .before
+
+lawful : (c : tie.Else1) → let q = start c .args .q in legalAsked (q .program) (q .budget) ≡ true
+lawful c = let l = c .before .is-legal-asked in sym (l .ensures) ∙ not-false (l .result) (c .if1 .left)
 
 abbrev asked : tie.Else2 → Question
-asked c = start c .args .q
-
-lawful : (c : tie.Else2) → legalAsked (asked c .program) (asked c .budget) ≡ true
-lawful c =
-    let l = c .before .before .before .is-legal-asked in
-    sym (l .ensures) ∙ not-false (l .result) (c .before .before .if1 .left)
+asked c = start (c .before .before) .args .q
 
 right : (c : tie.Else2) → wantsRight (asked c) ≡ true
 right c = let w = c .before .wants-right in sym (w .ensures) ∙ not-false (w .result) (c .if2 .left)
 
 -- it is one that code can hold, so its text fits the array
 held : (c : tie.Else2) → Held (asked c)
-held c = types-held (asked c) _ (start c .good .0)
+held c = types-held (asked c) _ (start (c .before .before) .good .0)
 
 short : (c : tie.Else2) → length (textIn (asked c)) ≤ longestText
-short c = held-short (asked c) (held c) (lawful c) (right c)
+short c = held-short (asked c) (held c) (lawful (c .before .before)) (right c)
 
 written : (c : tie.Else2) → Written (asked c)
-written c = known-written (asked c) (held c .sizes) (lawful c) (right c)
+written c = known-written (asked c) (held c .sizes) (lawful (c .before .before)) (right c)
 
 counted : (c : tie.Else2) → length (textIn (asked c)) ≡ length (headText (asked c)) + length (threadsText 0 (progOf (asked c .program) .threads))
 counted c = ap length (text-pieces (asked c) (written c)) ∙ length-append (headText (asked c)) (threadsText 0 (progOf (asked c .program) .threads))
@@ -64,11 +62,9 @@ wants-right-requires c κs = search needs
 
 returns-2 : tie.Need-returns-2
 returns-2 c =
-    let a = c .before .before .before .before .before .before .before .before .args in
-    let l = c .before .before .before .is-legal-asked in
+    let a = start (c .before .before) .args in
     let w = c .before .wants-right in
-    writes-wrong (a .q) (a .out .now) (sym (l .ensures) ∙ not-false (l .result) (c .before .before .if1 .left))
-    (sym (w .ensures) ∙ not-true (w .result) (c .if2 .taken))
+    writes-wrong (a .q) (a .out .now) (lawful (c .before .before)) (sym (w .ensures) ∙ not-true (w .result) (c .if2 .taken))
 
 slice-aggregate-put-head : tie.Need-slice-aggregate-put-head
 slice-aggregate-put-head c = search needs
@@ -85,7 +81,7 @@ put-threads-requires c κs =
     let h = c .before .before .put-head in
     (written b .threads, written b .counts, omega (arith, h .ensures .0, h .kept .0, counted b, short b))
 
--- the text as it stands in the array
+-- the text stands at the front of the array
 filled :
     (c : tie.After-text4) → let t = c .before .put-threads in let q = asked (c .before .before .before .before .before .before) in
     (t .result ≡ length (textIn q)) × (t .result ≤ length (t .last .0)) × (take (t .result) (t .last .0) ≡ textIn q)
@@ -107,7 +103,8 @@ filled c =
 returns-3 : tie.Need-returns-3
 returns-3 c =
     let b = c .before .before .before .before .before .before .before in
-    writes-long (asked b) (start b .args .out .now) (lawful b) (right b) (omega (arith, filled (c .before) .0, c .if3 .taken))
+    writes-long (asked b) (start (b .before .before) .args .out .now) (lawful (b .before .before)) (right b)
+    (omega (arith, filled (c .before) .0, c .if3 .taken))
 
 array-share-prefix-text : tie.Need-array-share-prefix-text
 array-share-prefix-text c = filled (c .before .before) .1
@@ -128,12 +125,13 @@ returns-4 : tie.Need-returns-4
 returns-4 c =
     let a = c .before .before .before .before .before .before .before .before .before .before in
     let b = a .before .before .before .before .before .before in
-    let o = start b .args .out .now in
+    let o = start (b .before .before) .args .out .now in
     let f = filled a in
     let p = c .before .before .before .before .before .before .put-bytes in
-    writes-text (asked b) o (a .before .put-threads .result) (p .last .0) (c .before .before .zero-from .last .0) (lawful b) (right b) (f .0)
-    (c .before .before .before .before .before .before .before .before .before .if3 .left) (p .ensures .1 ∙ ap (put o 0) (f .2))
-    (c .before .before .zero-from .ensures)
+    let z = c .before .before .zero-from in
+    let room = c .before .before .before .before .before .before .before .before .before .if3 .left in
+    writes-text (asked b) o (a .before .put-threads .result) (p .last .0) (z .last .0) (lawful (b .before .before)) (right b) (f .0) room
+    (p .ensures .1 ∙ ap (put o 0) (f .2)) (z .ensures)
 
 pub write-spec : {M : Type 1} → statement M
 write-spec =
