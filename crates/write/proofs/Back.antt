@@ -29,7 +29,7 @@ use Rattle.text.specs.Read.{Head, So, nothing, threaded, located, budgeted, wan
 use Rattle.text.specs.Packed.{HeadFits}
 use Rattle.text.proofs.Legal.{Fitting}
 use Rattle.write.specs.Lines.{threadLines, headLines, linesOf, unlines, textOf}
-use Rattle.write.proofs.Bound.{text-long}
+use Rattle.write.proofs.Bound.{longestText, text-long}
 
 -- NO LINE HAS A LINE FEED IN IT
 -- no byte of a word is one: computed
@@ -235,7 +235,7 @@ read-write a f =
     let x = askedOf h (f .oss) in
     let read : readParts (linesOf (x .prog) (h .budget) (h .want) ++ [] ∷ []) nothing 1 ≡ accepted x =
     all-read h (f .fits) (f .oss) (f .each) (f .many) ∙ ap (λ o. onPast o x) (f .stays) in
-    let short : length (textOf (a .prog) (a .budget) (a .want)) ≤ 708 = text-long a f in
+    let short : length (textOf (a .prog) (a .budget) (a .want)) ≤ longestText = text-long a f in
     rw (le-ltb mostBytes (length (unlines (linesOf (a .prog) (a .budget) (a .want)))) (omega arith))
     (subst (λ (y : Asked). readParts (split lineFeed (unlines (linesOf (y .prog) (y .budget) (y .want)))) nothing 1 ≡ accepted y) (sym (f .is))
     (ap (λ ps. readParts ps nothing 1) (split-unlines (linesOf (x .prog) (h .budget) (h .want)) (lines-clean h (f .fits) (f .oss))) ∙ read))

@@ -22,11 +22,11 @@ use Rattle.write.specs.Lines.{threadLines, headLines, linesOf, unlines, 
 use Rattle.write.proofs.Written.{unlines-append}
 
 -- a line, its line feed, and the lines behind it
-pub line-long : (l : List ℕ) (ls : List (List ℕ)) → length (unlines (l ∷ ls)) ≡ length l + 1 + length (unlines ls)
+line-long : (l : List ℕ) (ls : List (List ℕ)) → length (unlines (l ∷ ls)) ≡ length l + 1 + length (unlines ls)
 unfolding unlines
 line-long l ls = length-append l (lineFeed ∷ unlines ls) ∙ omega arith
 
-pub none-long : length (unlines []) ≡ 0
+none-long : length (unlines []) ≡ 0
 unfolding unlines
 none-long = refl
 
@@ -36,11 +36,11 @@ ops-long locs [] h w = omega (arith, none-long)
 ops-long locs (o ∷ os) h w = omega (arith, line-long (opText o) (map opText os), op-short locs o h (w .0), ops-long locs os h (w .1))
 
 -- a thread: its line of nine bytes, and eight op lines
-pub threads-none : (k : ℕ) → length (unlines (threadLines k [])) ≡ 0
+threads-none : (k : ℕ) → length (unlines (threadLines k [])) ≡ 0
 unfolding threadLines
 threads-none k = none-long
 
-pub threads-more :
+threads-more :
     (k : ℕ) (os : List Op) (oss : List (List Op))
     → length (unlines (threadLines k (os ∷ oss))) ≡ length (threadKey ++ decimal k) + 1 + (length (unlines (map opText os)) + length (unlines (threadLines (k + 1) oss)))
 unfolding threadLines
@@ -64,8 +64,12 @@ threads-long locs k (os ∷ oss) h few w =
       threads-long locs (k + 1) oss h (omega arith) (w .2),
     )
 
+-- the length of the longest text, which is the length of the array that `write` has for one
+abbrev pub longestText : ℕ
+longestText = 708
+
 -- THEOREM
-pub text-long : (a : Asked) → Fitting a → length (textOf (a .prog) (a .budget) (a .want)) ≤ 708
+pub text-long : (a : Asked) → Fitting a → length (textOf (a .prog) (a .budget) (a .want)) ≤ longestText
 unfolding textOf linesOf
 text-long a f =
     let h = f .head in
@@ -74,7 +78,7 @@ text-long a f =
     let locs : h .locs ≤ 6 = f .fits .locs .1 in
     let e : length (unlines (ls ++ threadLines 0 (f .oss))) ≡ length (unlines ls) + length (unlines (threadLines 0 (f .oss))) =
     ap length (unlines-append ls (threadLines 0 (f .oss))) ∙ length-append (unlines ls) (unlines (threadLines 0 (f .oss))) in
-    let b : length (unlines (ls ++ threadLines 0 (f .oss))) ≤ 708 =
+    let b : length (unlines (ls ++ threadLines 0 (f .oss))) ≤ longestText =
     omega (
       arith,
       line-long (threadsKey ++ decimal (length (f .oss))) ((locsKey ++ decimal (h .locs)) ∷ (budgetKey ++ decimal (h .budget)) ∷ wantText (h .want) ∷ []),
@@ -92,7 +96,7 @@ text-long a f =
       threads-long (h .locs) 0 (f .oss) locs (omega (arith, f .many)) (f .each),
       f .many,
     ) in
-    subst (λ (x : Asked). length (unlines (linesOf (x .prog) (x .budget) (x .want))) ≤ 708) (sym (f .is)) b
+    subst (λ (x : Asked). length (unlines (linesOf (x .prog) (x .budget) (x .want))) ≤ longestText) (sym (f .is)) b
 
 -- one of exactly so many: a cas of the longest numbers in all 32 places, the largest budget, and six wanted values of three digits
 abbrev longest : Asked
@@ -100,6 +104,6 @@ longest =
     askedOf (record { threads = 4; locs = 6; budget = 1_000_000_000; want = one (replicate 6 255) })
     (replicate 4 (replicate 8 (Cas (record { 0 = 3 }) (record { 0 = 5 }) 255 255)))
 
-pub longest-long : length (textOf (longest .prog) (longest .budget) (longest .want)) ≡ 708
+pub longest-long : length (textOf (longest .prog) (longest .budget) (longest .want)) ≡ longestText
 unfolding textOf linesOf unlines threadLines wantText opText join decimal digits
 longest-long = refl

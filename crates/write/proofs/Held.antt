@@ -1,4 +1,5 @@
--- What follows for a question that code can hold once `write` accepts it: it is legal, and what it wants fits. Assumes nothing.
+-- What follows for a question that code can hold once `write` accepts it: it is legal, what it wants fits, and its text is short.
+-- Assumes nothing.
 use Prim.Native.Nat.{ℕ, zero, suc, _-_, _≤_}
 use mathlib.Core.Path.{_≡_, refl, _∙_}
 use mathlib.Core.Bool.{Bool, true, false}
@@ -20,7 +21,8 @@ use Rattle.px86.specs.declared.Refusal.the-variants.{Illegal, WrongWant, TooLon
 use Rattle.write.specs.declared.Wrote.the-variants.{Length, Refused}
 use Rattle.write.specs.Bytes.{BytesIn, OpsBytes, ThreadsBytes, Held}
 use Rattle.write.specs.Writing.{textIn, wantsRight, writing}
-use Rattle.write.proofs.Round.{want-fits}
+use Rattle.write.proofs.Bound.{longestText, text-long}
+use Rattle.write.proofs.Round.{want-fits, standsFor, stands-fitting}
 
 -- parts of what has only bytes
 bytes-take : (n : ℕ) (vs : List ℕ) → BytesIn vs → BytesIn (take n vs)
@@ -79,6 +81,10 @@ want-held false n locs vs b e =
 pub held-want : (q : Question) → Held q → wantsRight q ≡ true → WantFits (q .program .locs) (wantedOf (q .want))
 unfolding wantedOf
 held-want q h r = want-held (q .want .all) (q .want .count) (q .program .locs) (q .want .values) (h .values) r
+
+-- its text is no longer than the longest
+pub held-short : (q : Question) → Held q → legalAsked (q .program) (q .budget) ≡ true → wantsRight q ≡ true → length (textIn q) ≤ longestText
+held-short q h l r = text-long (standsFor q) (stands-fitting q (h .sizes) l (held-want q h r) (held-threads q h))
 
 -- what an accepting answer tells
 pub record Accepts (q : Question) (n k : ℕ) : Type 0 where

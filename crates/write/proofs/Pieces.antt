@@ -9,7 +9,7 @@ use borrow.Author.Tests.{eqb-true, le-leb, lt-leb}
 use lib.Dec.{leb}
 use lib.ListN.{length, getD, take, drop, replicate, length-append, drop-of-length-le}
 use lib.Seq.{drop-cons, append-snoc, take-append-seam}
-use Rattle.names.specs.Names.{pick, threads}
+use Rattle.names.specs.Names.{pick, threads, locations, isBudget}
 use Rattle.tables.specs.Tables.{padded}
 use Rattle.program.specs.declared.Op.{Op}
 use Rattle.program.specs.declared.Cell.{Cell}
@@ -20,10 +20,8 @@ use Rattle.program.specs.Kept.{Sized}
 use Rattle.program.proofs.Tests.{both}
 use Rattle.program.proofs.Turns.{ops-cons, ops-none}
 use Rattle.program.proofs.Legal.{kept, legal-width}
-use Rattle.names.specs.Names.{isBudget}
 use Rattle.number.specs.Decimal.{decimal}
 use Rattle.number.specs.Put.{put}
-use Rattle.number.proofs.Laws.{decimal-small-length}
 use Rattle.number.proofs.Put.{length-put, put-then}
 use Rattle.line.specs.Split.{lineFeed}
 use Rattle.words.specs.Op.{opText}
@@ -32,8 +30,15 @@ use Rattle.text.specs.Read.{threadsKey, locsKey, budgetKey, threadKey}
 use Rattle.px86.specs.declared.Refusal.the-variants.{Illegal, WrongWant, TooLong}
 use Rattle.write.specs.declared.Wrote.the-variants.{Length, Refused}
 use Rattle.write.specs.Lines.{threadLines, headLines, linesOf, unlines, textOf}
-use Rattle.write.specs.Writing.{opsText, threadsText, headText, textIn, wantsRight, writing, leaves, Written}
+use Rattle.write.specs.Writing.{opsText, threadsText, headText, textIn, wantsRight, writing, leaves}
 use Rattle.write.proofs.Written.{unlines-append}
+
+-- what is known of a question once 6 and 7 are ruled out
+pub record Written (q : Question) : Type 0 where
+  pub threads : q .program .threads ≤ threads
+  pub counts : allBelow mostOps (countsOf (q .program)) ≡ true
+  pub many : length (progOf (q .program) .threads) ≡ q .program .threads
+  pub want : q .want .all ≡ false → (0 < q .want .count) × (q .want .count ≤ locations)
 
 -- a line KEY=NUMBER with its line feed
 abbrev pub numberText : List ℕ → ℕ → List ℕ
@@ -49,6 +54,11 @@ number-line w n = append-assoc w (decimal n) (lineFeed ∷ [])
 unlines-none : unlines [] ≡ []
 unfolding unlines
 unlines-none = refl
+
+-- what was put at the front
+pub put-front : (d s : List ℕ) (n : ℕ) → n ≡ length s → take n (put d 0 s) ≡ s
+unfolding put
+put-front d s n e = rw e (take-append-seam s (drop (0 + length s) d))
 
 -- op lines
 module _ (cells : List Cell) (t n : ℕ) (fits : t * mostOps + n ≤ length cells) where
@@ -120,33 +130,6 @@ module _ (q : Question) where
           ≡ headText q ++ threadsText 0 (progOf (q .program) .threads)
       same = unfold progOf in refl
 
-  number-long : (w : List ℕ) (n : ℕ) → length (numberText w n) ≡ length w + (length (decimal n) + 1)
-  number-long w n = length-append w (decimal n ++ lineFeed ∷ []) ∙ ap (λ (k : ℕ). length w + k) (length-append (decimal n) (lineFeed ∷ []))
-
-  pub text-counted :
-      Written q
-      → length (textIn q)
-      ≡ 25 + length (decimal (q .budget .0)) + length (wantText (wantedOf (q .want)) ++ lineFeed ∷ []) + length (threadsText 0 (progOf (q .program) .threads))
-  text-counted w =
-      let a = numberText threadsKey (q .program .threads) in
-      let b = numberText locsKey (q .program .locs) in
-      let c = numberText budgetKey (q .budget .0) in
-      let d = wantText (wantedOf (q .want)) ++ lineFeed ∷ [] in
-      ap length (text-pieces w)
-      ∙ (length-append (headText q) (threadsText 0 (progOf (q .program) .threads))
-      ∙ omega (
-        arith,
-        ap length head-pieces,
-        length-append a (b ++ (c ++ d)),
-        length-append b (c ++ d),
-        length-append c d,
-        number-long threadsKey (q .program .threads),
-        number-long locsKey (q .program .locs),
-        number-long budgetKey (q .budget .0),
-        decimal-small-length (q .program .threads) (omega (arith, w .many, w .sizes .0)),
-        decimal-small-length (q .program .locs) (omega (arith, w .sizes .1)),
-      ))
-
   -- what is known once 6 and 7 are ruled out
   pub known-written : Sized (q .program) → legalAsked (q .program) (q .budget) ≡ true → wantsRight q ≡ true → Written q
   known-written s h r =
@@ -156,7 +139,6 @@ module _ (q : Question) where
       record {
         threads = k .few-threads;
         counts = below l;
-        sizes = (omega (arith, k .few-threads), omega (arith, k .few-locs));
         many = m;
         want = λ one. let e = count-is one r in (omega (arith, k .some-locs), omega (arith, k .few-locs));
       }
@@ -197,11 +179,8 @@ module _ (q : Question) where
         let t = textIn q in
         let k : length t ≤ length o = omega arith in
         let long : length b ≡ length o = ap length eb ∙ length-put o 0 t (omega arith) in
-        let front : take n b ≡ t = ap (λ (x : List ℕ). take n x) eb ∙ (ap (λ (m : ℕ). take m (put o 0 t)) e ∙ put-front o t) in
+        let front : take n b ≡ t = ap (λ (x : List ℕ). take n x) eb ∙ put-front o t n e in
         (rw (h, r, le-leb (length t) (length o) k, e), rw (h, r, le-leb (length t) (length o) k) (ez ∙ rw (front, long, e)))
-      where
-        put-front : (d s : List ℕ) → take (length s) (put d 0 s) ≡ s
-        put-front d s = unfold put in (take-append-seam s (drop (0 + length s) d))
 
 -- two pieces, and what is left to write behind them
 pub put-both :

@@ -143,10 +143,11 @@ module _ (q : Question) (s : Sized (q .program)) (h : legalAsked (q .program) (q
   unfolding progOf
   prog-locs = refl
 
+  pub stands-fitting : Fitting (standsFor q)
+  stands-fitting = legal-fitting (progOf (q .program)) (q .budget .0) (wantedOf (q .want)) prog-legal (asked-parts .1) (rw prog-locs hw) bytes
+
   accepted-back : readText (textIn q) ≡ accepted (standsFor q)
-  accepted-back =
-      read-write (standsFor q)
-      (legal-fitting (progOf (q .program)) (q .budget .0) (wantedOf (q .want)) prog-legal (asked-parts .1) (rw prog-locs hw) bytes)
+  accepted-back = read-write (standsFor q) stands-fitting
 
   read-back : readOf (textIn q) ≡ record { verdict = Accepted; question = questionOf (standsFor q) }
   unfolding parsedOf readOf

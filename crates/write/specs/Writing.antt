@@ -1,16 +1,15 @@
 -- WRITING A QUESTION: what the door answers and what it leaves in the lent buffer. "Writing: 6, 7, 9." Assumes nothing: these are definitions.
-use Prim.Native.Nat.{ℕ, _<_, _≤_}
-use mathlib.Core.Path.{_≡_}
-use mathlib.Core.Bool.{Bool, true, false}
+use Prim.Native.Nat.{ℕ}
+use mathlib.Core.Bool.{Bool, true}
 use mathlib.Core.List.{List, map}
 use lib.Dec.{leb, eqb}
 use lib.ListN.{length}
-use Rattle.names.specs.Names.{pick, threads, locations}
+use Rattle.names.specs.Names.{pick}
 use Rattle.tables.specs.Tables.{padded}
 use Rattle.program.specs.declared.Op.{Op}
 use Rattle.program.specs.declared.Question.{Question}
-use Rattle.program.specs.Program.{progOf, countsOf, mostOps, wantedOf}
-use Rattle.program.specs.Legal.{allBelow, legalAsked}
+use Rattle.program.specs.Program.{progOf, wantedOf}
+use Rattle.program.specs.Legal.{legalAsked}
 use Rattle.words.specs.Op.{opText}
 use Rattle.px86.specs.declared.Refusal.the-variants.{Illegal, WrongWant, TooLong}
 use Rattle.write.specs.declared.Wrote.{Wrote}
@@ -43,14 +42,6 @@ opsText os = unlines (map opText os)
 
 abbrev pub threadsText : ℕ → List (List Op) → List ℕ
 threadsText k oss = unlines (threadLines k oss)
-
--- what is known of a question once 6 and 7 are ruled out
-pub record Written (q : Question) : Type 0 where
-  pub threads : q .program .threads ≤ threads
-  pub counts : allBelow mostOps (countsOf (q .program)) ≡ true
-  pub sizes : (length (progOf (q .program) .threads) ≤ 9) × (q .program .locs ≤ 9)
-  pub many : length (progOf (q .program) .threads) ≡ q .program .threads
-  pub want : q .want .all ≡ false → (0 < q .want .count) × (q .want .count ≤ locations)
 
 -- the first four lines of a question in memory
 abbrev pub headText : Question → List ℕ

@@ -1,7 +1,4 @@
 // The text of a question, written at the front of a lent buffer.
-pub mod measure;
-
-use names::Budget;
 use program::Cell;
 use program::Program;
 use program::Question;
@@ -9,16 +6,14 @@ use program::Want;
 use px86::Refusal;
 ghost use mathlib.Core.Path.{_≡_};
 ghost use mathlib.Core.Bool.{true, false};
-ghost use mathlib.Core.List.{List, [], _∷_, _++_};
-ghost use Prim.Native.Nat.{ℕ, _+_, _<_, _≤_};
+ghost use Prim.Native.Nat.{_+_, _<_, _≤_};
 ghost use lib.ListN.{length};
 ghost use Rattle.names.specs.Names.{threads as mostThreads, locations, pick};
 ghost use lib.Dec.{eqb};
-ghost use Rattle.program.specs.Program.{mostOps, progOf, countsOf, opsOf, wantedOf};
+ghost use Rattle.program.specs.Program.{mostOps, progOf, countsOf, opsOf};
 ghost use Rattle.program.specs.Legal.{allBelow};
 ghost use Rattle.number.specs.Put.{put};
-ghost use Rattle.write.specs.Lines.{headLines, unlines};
-ghost use Rattle.write.specs.Writing.{opsText, threadsText, textIn, headText, Written, writing, leaves};
+ghost use Rattle.write.specs.Writing.{opsText, threadsText, textIn, headText, writing, leaves};
 
 // The text's length, or why there is none.
 pub enum Wrote {
@@ -102,12 +97,14 @@ pub fn write(q: Question, out: &mut [u8]) -> Wrote
     if !wants_right(w, p.locs) {
         return Wrote::Refused(Refusal::WrongWant);
     }
-    let n = measure::text_size(q);
+    // the text is made here first, so that 9 leaves the lent buffer as it is; the longest has 708 bytes
+    let mut text = [0u8; 708];
+    let e = put_head(&mut text, q);
+    let n = put_threads(&mut text, e, p);
     if out.len() < n {
         return Wrote::Refused(Refusal::TooLong);
     }
-    let e = put_head(out, q);
-    let f = put_threads(out, e, p);
-    number::zero_from(out, f);
+    number::put_bytes(out, 0, &text[..n]);
+    number::zero_from(out, n);
     Wrote::Length(n)
 }
