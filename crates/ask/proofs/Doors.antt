@@ -7,7 +7,7 @@ use native.Mathlib.Nat.{mul-comm, mul-div-cancel-left, sub-zero}
 use native.Mathlib.Omega.{arith}
 use borrow.Author.Tests.{leb-true, le-leb, lt-leb, eq-eqb, ne-eqb}
 use lib.Dec.{leb}
-use lib.ListN.{length, take, replicate, getElem?, length-replicate}
+use lib.ListN.{length, replicate, getElem?, length-replicate}
 use Rattle.names.specs.Names.{mostRuns, isBudget, pick}
 use Rattle.names.specs.declared.Budget.{Budget}
 use Rattle.tables.specs.Tables.{padded}

@@ -20,7 +20,7 @@ use Rattle.words.specs.Op.{opText, Within}
 use Rattle.words.specs.Want.{wantKey, wantText, WantFits}
 use Rattle.spell.proofs.Pieces.{op-length}
 
-pub commaed-none : length (commaed []) ≡ 0
+commaed-none : length (commaed []) ≡ 0
 unfolding commaed
 commaed-none = refl
 

@@ -2,7 +2,7 @@
 use mathlib.Core.Path.{_≡_, refl, sym, ap, _∙_, subst}
 use mathlib.Core.Bool.{false}
 use mathlib.Core.List.{List, [], _∷_, _++_, foldl}
-use Prim.Native.Nat.{ℕ, zero, suc, _+_, _<_, _≤_}
+use Prim.Native.Nat.{ℕ, zero, suc, _+_, _<_}
 use native.Mathlib.Numerals.{add-one}
 use native.Mathlib.Omega.{arith}
 use lib.ListN.{length, take, drop, set}
@@ -15,7 +15,7 @@ use Rattle.px86.specs.Runs.{work}
 use Rattle.px86.specs.Runs.Event.{run}
 use Rattle.px86.specs.Ask.{Tally}
 use Rattle.px86.proofs.Few.{Few}
-use Rattle.listing.specs.Listing.{opsIn, each, threadsIn, progIn}
+use Rattle.listing.specs.Listing.{each, threadsIn, progIn}
 use Rattle.state.specs.State.{File, machineOf}
 use Rattle.state.specs.declared.State.{State}
 use Rattle.verdict.specs.Verdict.{verdictOf}

@@ -4,7 +4,7 @@ use mathlib.Core.Bool.{Bool, true, false}
 use mathlib.Core.List.{List, [], _∷_, _++_, map}
 use Prim.Native.Nat.{ℕ, zero, suc, _+_, _≤_, _<_}
 use native.Mathlib.Omega.{arith}
-use lib.ListN.{length, drop, getD, replicate, length-replicate, getD-replicate}
+use lib.ListN.{length, drop, replicate, length-replicate, getD-replicate}
 use lib.Seq.{drop-append-seam}
 use Rattle.names.specs.Names.{pick}
 use Rattle.program.specs.Program.{Wanted}

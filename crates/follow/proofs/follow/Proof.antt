@@ -1,13 +1,13 @@
 -- `follow::follow` meets its contract: in each turn what is left to be followed from the state in hand gives what the whole list gives from
 -- the start, so that where the loop ends, or a code stops it, that is the definition's answer. Assumes nothing.
-use Prim.Native.Nat.{_-_, _<_}
+use Prim.Native.Nat.{_-_}
 use mathlib.Core.Path.{_≡_, sym, ap, _∙_}
 use mathlib.Core.Bool.{true}
 use native.Mathlib.Omega.{arith}
 use lib.ListN.{length}
 use borrow.Author.Needs.{needs}
 use borrow.Author.Tests.{not-true, not-false}
-use Rattle.program.specs.Program.{Prog, progOf}
+use Rattle.program.specs.Program.{Prog}
 use Rattle.program.specs.Legal.{legal}
 use Rattle.px86.specs.Ask.{told}
 use Rattle.px86.proofs.Told.{followed-legal, followed-illegal, told-at, told-stopped, told-noPlace}

@@ -1,14 +1,12 @@
 -- `walk::codes::next_leave` meets its contract: every code before k is barred. Assumes nothing.
-use Prim.Native.Nat.{ℕ, _-_, _/_, _%_, _≤_, _<_}
+use Prim.Native.Nat.{ℕ, _-_, _/_, _≤_, _<_}
 use mathlib.Core.List.{List}
-use mathlib.Core.Path.{_≡_, sym, ap, _∙_}
-use borrow.Author.Needs.{needs}
+use mathlib.Core.Path.{sym, ap, _∙_}
 use borrow.Author.Tests.{not-true, not-false}
 use native.Mathlib.Omega.{arith}
-use lib.ListN.{length}
 use Rattle.px86.specs.Runs.{codes}
 use Rattle.px86.proofs.Codes.{step-leave}
-use Rattle.state.specs.State.{bufferOf, machineOf, held}
+use Rattle.state.specs.State.{machineOf, held}
 use Rattle.state.proofs.Reading.{buffer-count}
 use Rattle.verdict.specs.Verdict.{verdictOf}
 use Rattle.walk.specs.Codes.{Upto}

@@ -1,6 +1,5 @@
 -- `cycle::visit` and `cycle::try_from` meet their contracts: at each call the work left and the codes left fall. Assumes nothing.
 use mathlib.Core.Path.{_≡_, refl, sym, _∙_}
-use mathlib.Core.List.{_++_, _∷_, []}
 use lib.ListN.{length, take, length-set}
 use native.Mathlib.Omega.{arith}
 use borrow.Author.Needs.{needs}
@@ -12,7 +11,7 @@ use Rattle.walk.specs.Found.{Holds}
 use Rattle.walk.specs.Walk.{asked}
 use Rattle.walk.proofs.Passed.{allowed-below, first-allowed}
 use Rattle.walk.proofs.Holding.{is-going}
-use Rattle.walk.proofs.Cycling.{Between, at-first, stopped, passed, filled, taken, visited, has-work, walks-on, falls-on, comes-to, arrived, asked-locs, path-on, path-back}
+use Rattle.walk.proofs.Cycling.{Between, at-first, stopped, passed, filled, taken, has-work, walks-on, falls-on, comes-to, arrived, asked-locs, path-on, path-back}
 use Prim.Native.Nat.{ℕ, _<_}
 use borrow.Fn.Kinds.{In}
 use borrow.Fn.PlainCycle.{Measures, is, falls, and}
