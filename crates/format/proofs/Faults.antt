@@ -1,6 +1,6 @@
--- What the code's turn says of a line: no line is refused with 0, so 0 is a line that goes on. Assumes nothing.
-use Prim.Native.Nat.{ℕ, _+_}
-use mathlib.Core.Path.{_≡_, refl, ap, sym, _∙_}
+-- A line is refused with a number from 2 to 4, so a turn whose fault is 0 is a line that goes on. Assumes nothing.
+use Prim.Native.Nat.{ℕ, _+_, _≤_}
+use mathlib.Core.Path.{_≡_, refl, ap, sym}
 use mathlib.Core.Bool.{Bool, true, false}
 use mathlib.Core.List.{List, [], _∷_, _++_}
 use native.Mathlib.Omega.{arith}
@@ -21,53 +21,52 @@ use Rattle.format.specs.declared.Turn.{Turn}
 use Rattle.format.specs.Format.{So, nothing, threaded, located, budgeted, wanting, inside, Step, fault, next, step, onNumber, onWant, onOp, onTurn, threadLine, threadsKey, locsKey, budgetKey}
 use Rattle.format.specs.Packed.{packed, packedStep}
 
--- no line is refused with 0
-number-faults : (f : Field) (k : ℕ → So) → onNumber f k ≡ fault 0 → ⊥
-number-faults field.Shape k e = let z : _≡_ {A = ℕ} 2 0 = cc in omega arith
-number-faults field.Limit k e = let z : _≡_ {A = ℕ} 3 0 = cc in omega arith
-number-faults (field.Fine n) k e = let z : _≡_ {A = ℕ} 1 0 = cc in omega arith
+abbrev pub Faults : Step → Type 0
+Faults (fault k) = (2 ≤ k) × (k ≤ 4)
+Faults (next u) = Unit {0}
 
-want-faults : (w : WantLine) (k : Wanted → So) → onWant w k ≡ fault 0 → ⊥
-want-faults shape k e = let z : _≡_ {A = ℕ} 2 0 = cc in omega arith
-want-faults limit k e = let z : _≡_ {A = ℕ} 3 0 = cc in omega arith
-want-faults (fine w) k e = let z : _≡_ {A = ℕ} 1 0 = cc in omega arith
+number-faults : (f : Field) (k : ℕ → So) → Faults (onNumber f k)
+number-faults field.Shape k = (omega arith, omega arith)
+number-faults field.Limit k = (omega arith, omega arith)
+number-faults (field.Fine n) k = tt
 
-turn-faults : (f : Field) (u : So) → onTurn f u ≡ fault 0 → ⊥
-turn-faults field.Shape u e = let z : _≡_ {A = ℕ} 2 0 = cc in omega arith
-turn-faults field.Limit u e = let z : _≡_ {A = ℕ} 2 0 = cc in omega arith
-turn-faults (field.Fine n) u e = let z : _≡_ {A = ℕ} 1 0 = cc in omega arith
+want-faults : (w : WantLine) (k : Wanted → So) → Faults (onWant w k)
+want-faults shape k = (omega arith, omega arith)
+want-faults limit k = (omega arith, omega arith)
+want-faults (fine w) k = tt
 
-pick-faults : (t : Bool) (a b : Step) → (a ≡ fault 0 → ⊥) → (b ≡ fault 0 → ⊥) → pick t a b ≡ fault 0 → ⊥
+turn-faults : (f : Field) (u : So) → Faults (onTurn f u)
+turn-faults field.Shape u = (omega arith, omega arith)
+turn-faults field.Limit u = (omega arith, omega arith)
+turn-faults (field.Fine n) u = tt
+
+pick-faults : (t : Bool) (a b : Step) → Faults a → Faults b → Faults (pick t a b)
 unfolding pick
-pick-faults true a b p q e = p e
-pick-faults false a b p q e = q e
+pick-faults true a b p q = p
+pick-faults false a b p q = q
 
-fault-faults : (k : ℕ) → (k ≡ 0 → ⊥) → fault k ≡ fault 0 → ⊥
-fault-faults k h e = h (cc)
+op-faults : (o : OpLine) (ops : List Op) (k : Op → So) → Faults (onOp o ops k)
+op-faults op.BadShape ops k = (omega arith, omega arith)
+op-faults op.BadLimit ops k = (omega arith, omega arith)
+op-faults (op.Fine o) ops k = pick-faults (ltb (length ops) mostOps) (next (k o)) (fault 4) tt (omega arith, omega arith)
 
-op-faults : (o : OpLine) (ops : List Op) (k : Op → So) → onOp o ops k ≡ fault 0 → ⊥
-op-faults op.BadShape ops k e = fault-faults 2 (λ z. omega arith) e
-op-faults op.BadLimit ops k e = fault-faults 3 (λ z. omega arith) e
-op-faults (op.Fine o) ops k e =
-    pick-faults (ltb (length ops) mostOps) (next (k o)) (fault 4) (λ q. let z : _≡_ {A = ℕ} 1 0 = cc in omega arith) (fault-faults 4 (λ z. omega arith)) e
-
-pub no-zero : (u : So) (l : List ℕ) → step u l ≡ fault 0 → ⊥
+pub step-faults : (u : So) (l : List ℕ) → Faults (step u l)
 unfolding step
-no-zero nothing l e = number-faults (numberLine threadsKey 1 threads l) threaded e
-no-zero (threaded t) l e = number-faults (numberLine locsKey 1 locations l) (located t) e
-no-zero (located t n) l e = number-faults (numberLine budgetKey 1 mostRuns l) (budgeted t n) e
-no-zero (budgeted t n b) l e = want-faults (wantLine n l) (λ w. wanting (record { threads = t; locs = n; budget = b; want = w })) e
-no-zero (wanting h) l e = turn-faults (threadLine 0 l) (inside h [] []) e
-no-zero (inside h done ops) l e =
+step-faults nothing l = number-faults (numberLine threadsKey 1 threads l) threaded
+step-faults (threaded t) l = number-faults (numberLine locsKey 1 locations l) (located t)
+step-faults (located t n) l = number-faults (numberLine budgetKey 1 mostRuns l) (budgeted t n)
+step-faults (budgeted t n b) l = want-faults (wantLine n l) (λ w. wanting (record { threads = t; locs = n; budget = b; want = w }))
+step-faults (wanting h) l = turn-faults (threadLine 0 l) (inside h [] [])
+step-faults (inside h done ops) l =
     let o = onOp (opLine (h .locs) l) ops (λ o. inside h done (ops ++ o ∷ [])) in
     let t = onTurn (threadLine (length done + 1) l) (inside h (done ++ ops ∷ []) []) in
     let later = ltb (length done + 1) (h .threads) in
     pick-faults (begins opKey l) o (pick later t (fault 2)) (op-faults (opLine (h .locs) l) ops (λ o. inside h done (ops ++ o ∷ [])))
-    (pick-faults later t (fault 2) (turn-faults (threadLine (length done + 1) l) (inside h (done ++ ops ∷ []) [])) (fault-faults 2 (λ z. omega arith))) e
+    (pick-faults later t (fault 2) (turn-faults (threadLine (length done + 1) l) (inside h (done ++ ops ∷ []) [])) (omega arith, omega arith))
 
 -- what the code's turn says of the definition's step
-pub stepped : (q : Step) (r : Turn) → r ≡ packedStep q → r .fault ≡ 0 → (q ≡ fault 0 → ⊥) → (u : So) × (q ≡ next u) × (r .state ≡ packed u)
-stepped (fault k) r e z h = absurd (h (ap fault (sym (ap (λ (x : Turn). x .fault) e) ∙ z)))
+pub stepped : (q : Step) (r : Turn) → r ≡ packedStep q → r .fault ≡ 0 → Faults q → (u : So) × (q ≡ next u) × (r .state ≡ packed u)
+stepped (fault k) r e z h = let x = ap (λ (x : Turn). x .fault) e in absurd (omega (arith, h .0))
 stepped (next u) r e z h = (u, refl, ap (λ (x : Turn). x .state) e)
 
 pub faulted : (q : Step) (r : Turn) → r ≡ packedStep q → (r .fault ≡ 0 → ⊥) → q ≡ fault (r .fault)

@@ -9,7 +9,7 @@ use Rattle.program.specs.declared.Question.{Question}
 use Rattle.program.specs.Program.{mostOps}
 use Rattle.program.specs.Program.Wanted.{all}
 use Rattle.words.specs.Want.{WantFits}
-use Rattle.question.specs.Question.{Asked, Short, AllWithin, ThreadsWithin, asking, questionOf}
+use Rattle.question.specs.Question.{AllWithin, ThreadsWithin, asking}
 use Rattle.format.specs.declared.State.{State}
 use Rattle.format.specs.declared.Turn.{Turn}
 use Rattle.format.specs.Format.{Head, So, nothing, threaded, located, budgeted, wanting, inside, Step, fault, next}

@@ -15,7 +15,7 @@ use Rattle.number.proofs.Laws.{decimal-small-length}
 use Rattle.words.specs.Words.{word, kindIs, operands}
 use Rattle.words.specs.Op.{opText}
 use Rattle.line.specs.Join.{commaed}
-use Rattle.text.specs.Read.{threadKey}
+use Rattle.format.specs.Format.{threadKey}
 use Rattle.spell.proofs.Pieces.{op-length}
 use Rattle.spell.proofs.Short.{commaed-none, one-long, two-long, three-long, four-long}
 use Rattle.write.specs.Writing.{opsText, threadsText}

@@ -9,7 +9,7 @@ use Rattle.line.proofs.Split.{split-at-more, split-at-last}
 use Rattle.format.specs.Format.{So, nothing, step}
 use Rattle.format.specs.Packed.{packed, Valid}
 use Rattle.format.proofs.Keeps.{valid-step}
-use Rattle.format.proofs.Faults.{no-zero, stepped, faulted}
+use Rattle.format.proofs.Faults.{step-faults, stepped, faulted}
 use Rattle.text.specs.Read.{Outcome, onStep, readParts, mostBytes, readText, parsedOf}
 use Rattle.text.proofs.Ends.{parts-next, parts-last, read-long, read-short, read-is}
 use Rattle.text.proofs.read.Statement.{statement}
@@ -103,7 +103,7 @@ loop-again c =
     let i = l .loop .inv .3 in
     let p = take (e - l .loop .a) (drop (l .loop .a) s) in
     let k : So → Outcome = λ u. readParts (split lineFeed (drop (e + 1) s)) u (l .loop .n + 1) in
-    let u = stepped (step (i .0) p) (d .line-at .result) (d .line-at .ensures (i .0) (i .1) (i .2)) (c .before .if3 .left) (no-zero (i .0) p) in (
+    let u = stepped (step (i .0) p) (d .line-at .result) (d .line-at .ensures (i .0) (i .1) (i .2)) (c .before .if3 .left) (step-faults (i .0) p) in (
       omega arith,
       omega arith,
       omega arith,
