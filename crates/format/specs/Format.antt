@@ -1,5 +1,5 @@
--- THE LINES OF A TEXT: document 01, "The text" and refusals 2 to 4. What each line has to be is said from what was read before it, and by
--- itself. Assumes nothing: these are definitions.
+-- THE LINES OF A TEXT: document 01, "The text" and refusals 2 to 4. Each line is judged by itself, from what was read before it.
+-- Assumes nothing: these are definitions.
 use Prim.Native.Nat.{ℕ, _+_}
 use mathlib.Core.List.{List, [], _∷_, _++_}
 use lib.Dec.{ltb}

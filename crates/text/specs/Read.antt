@@ -1,5 +1,5 @@
--- READING THE TEXT: document 01, "The text" and refusals 1 to 5. The text is cut at its line feeds, and each line is judged by itself from what
--- was read before it (format, specs/Format.antt). Assumes nothing: these are definitions.
+-- READING THE TEXT: document 01, "The text" and refusals 1 to 5. The text is cut at its line feeds, and each line
+-- is judged in turn (format, specs/Format.antt). Assumes nothing: these are definitions.
 use Prim.Native.Nat.{ℕ, _+_, _≤_}
 use mathlib.Core.Path.{_≡_}
 use mathlib.Core.Option.{Option, none, some}
