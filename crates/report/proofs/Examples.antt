@@ -13,7 +13,8 @@ use Rattle.line.specs.Join.{join}
 use Rattle.px86.specs.Ask.{ask}
 use Rattle.px86.specs.Ask.Answer.{every}
 use Rattle.question.specs.Question.{Asked, holding, programOf, questionOf}
-use Rattle.text.specs.Read.{step, readParts, readText, askedOf}
+use Rattle.format.specs.Format.{step}
+use Rattle.text.specs.Read.{readParts, readText, askedOf}
 use Rattle.text.proofs.Examples.{accepted-document}
 use Rattle.say.specs.Said.{listed, memoryLines, allText, refusedText, said}
 use Rattle.say.proofs.Examples.{bytes}

@@ -8,68 +8,18 @@ use native.Mathlib.Omega.{arith}
 use borrow.Author.Tests.{ltb-false}
 use lib.Dec.{ltb, eqb}
 use lib.ListN.{length, length-append}
-use Rattle.names.specs.Names.{pick, threads, locations, mostRuns}
+use Rattle.names.specs.Names.{pick}
 use Rattle.program.specs.declared.Op.{Op}
-use Rattle.program.specs.Program.{Wanted, mostOps}
-use Rattle.line.specs.declared.Field.{Field}
-use Rattle.line.specs.declared.Field.the-variants as field
-use Rattle.line.specs.Split.{onFirst, split, begins, lineFeed}
-use Rattle.line.specs.Line.{numberLine}
-use Rattle.words.specs.declared.OpLine.{OpLine}
-use Rattle.words.specs.declared.OpLine.the-variants as op
-use Rattle.words.specs.Op.{opKey, opLine}
-use Rattle.words.specs.Want.{WantLine, shape, limit, fine, wantLine}
+use Rattle.line.specs.Split.{onFirst, split, lineFeed}
 use Rattle.question.specs.Question.{Asked, Short}
 use Rattle.question.specs.Past.{leaps, pastIn, orElse, past, firstThread}
 use Rattle.question.proofs.Four.{short-last}
 use Rattle.question.proofs.Lawful.{within-short}
-use Rattle.text.specs.Read.{So, nothing, threaded, located, budgeted, wanting, inside, Step, fault, next, onNumber, onWant, onTurn, onOp, threadLine, threadsKey, locsKey, budgetKey, step, Outcome, refused, accepted, askedOf, onPast, end, onStep, readParts, mostBytes, readText}
-use Rattle.text.specs.Packed.{Valid}
-use Rattle.text.proofs.Keeps.{valid-step}
-
--- a line's fault has one of the numbers 2 to 4
-abbrev Faults : Step → Type 0
-Faults (fault k) = k ≤ 4
-Faults (next u) = Unit {0}
-
-number-faults : (f : Field) (k : ℕ → So) → Faults (onNumber f k)
-number-faults field.Shape k = omega arith
-number-faults field.Limit k = omega arith
-number-faults (field.Fine n) k = tt
-
-want-faults : (w : WantLine) (k : Wanted → So) → Faults (onWant w k)
-want-faults shape k = omega arith
-want-faults limit k = omega arith
-want-faults (fine w) k = tt
-
-turn-faults : (f : Field) (u : So) → Faults (onTurn f u)
-turn-faults field.Shape u = omega arith
-turn-faults field.Limit u = omega arith
-turn-faults (field.Fine n) u = tt
-
-pick-faults : (t : Bool) (a b : Step) → Faults a → Faults b → Faults (pick t a b)
-unfolding pick
-pick-faults true a b p q = p
-pick-faults false a b p q = q
-
-op-faults : (o : OpLine) (ops : List Op) (k : Op → So) → Faults (onOp o ops k)
-op-faults op.BadShape ops k = omega arith
-op-faults op.BadLimit ops k = omega arith
-op-faults (op.Fine o) ops k = pick-faults (ltb (length ops) mostOps) (next (k o)) (fault 4) tt (omega arith)
-
-step-faults : (u : So) (l : List ℕ) → Faults (step u l)
-unfolding step
-step-faults nothing l = number-faults (numberLine threadsKey 1 threads l) threaded
-step-faults (threaded t) l = number-faults (numberLine locsKey 1 locations l) (located t)
-step-faults (located t n) l = number-faults (numberLine budgetKey 1 mostRuns l) (budgeted t n)
-step-faults (budgeted t n b) l = want-faults (wantLine n l) (λ w. wanting (record { threads = t; locs = n; budget = b; want = w }))
-step-faults (wanting h) l = turn-faults (threadLine 0 l) (inside h [] [])
-step-faults (inside h done ops) l =
-    let o = onOp (opLine (h .locs) l) ops (λ o. inside h done (ops ++ o ∷ [])) in
-    let t = onTurn (threadLine (length done + 1) l) (inside h (done ++ ops ∷ []) []) in
-    let later = ltb (length done + 1) (h .threads) in
-    pick-faults (begins opKey l) o (pick later t (fault 2)) (op-faults (opLine (h .locs) l) ops (λ o. inside h done (ops ++ o ∷ [])))
-    (pick-faults later t (fault 2) (turn-faults (threadLine (length done + 1) l) (inside h (done ++ ops ∷ []) [])) (omega arith))
+use Rattle.format.specs.Format.{So, nothing, threaded, located, budgeted, wanting, inside, Step, fault, next, step}
+use Rattle.format.specs.Packed.{Valid}
+use Rattle.format.proofs.Keeps.{valid-step}
+use Rattle.format.proofs.Faults.{Faults, step-faults}
+use Rattle.text.specs.Read.{Outcome, refused, accepted, askedOf, onPast, end, onStep, readParts, mostBytes, readText}
 
 -- the line of a bz past its thread's end is one of the program's
 abbrev UpTo : ℕ → Option ℕ → Type 0
@@ -138,7 +88,7 @@ end-numbered (inside d done ops) n [] v h =
     (omega arith, h)
 
 step-numbered : (q : Step) (n : ℕ) (f : So → Outcome) → Faults q → n ≤ mostLine → ((u : So) → q ≡ next u → Numbered (f u)) → Numbered (onStep q n f)
-step-numbered (fault k) n f p h g = (omega arith, h)
+step-numbered (fault k) n f p h g = (omega (arith, p .1), h)
 step-numbered (next u) n f p h g = g u refl
 
 parts-numbered : (ps : List (List ℕ)) (u : So) (n : ℕ) → Valid u → n + length ps ≤ mostLine → Numbered (readParts ps u n)

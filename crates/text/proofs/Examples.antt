@@ -17,7 +17,8 @@ use Rattle.words.specs.Words.{named, kindOf}
 use Rattle.words.specs.Op.{opParts, opLine}
 use Rattle.words.specs.Want.{wantRest, wantLine}
 use Rattle.question.specs.Past.{leaps, pastIn, past}
-use Rattle.text.specs.Read.{step, readParts, readText, Outcome, refused, accepted, askedOf}
+use Rattle.format.specs.Format.{step}
+use Rattle.text.specs.Read.{readParts, readText, Outcome, refused, accepted, askedOf}
 
 -- a quoted text as bytes, of which each character is one
 abbrev pub bytes : String → List ℕ

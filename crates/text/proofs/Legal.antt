@@ -16,9 +16,10 @@ use Rattle.words.specs.Want.{WantFits}
 use Rattle.question.specs.Question.{Asked, ThreadsWithin, programOf, questionOf}
 use Rattle.question.specs.Past.{past, firstThread}
 use Rattle.question.proofs.Lawful.{and-true, threads-last, threads-legal, made-legal}
-use Rattle.text.specs.Read.{Head, So, nothing, threaded, located, budgeted, wanting, inside, Step, fault, next, step, Outcome, refused, accepted, askedOf, onPast, end, onStep, readParts, mostBytes, readText}
-use Rattle.text.specs.Packed.{HeadFits, Valid}
-use Rattle.text.proofs.Keeps.{valid-step}
+use Rattle.format.specs.Format.{Head, So, nothing, threaded, located, budgeted, wanting, inside, Step, fault, next, step}
+use Rattle.format.specs.Packed.{HeadFits, Valid}
+use Rattle.format.proofs.Keeps.{valid-step}
+use Rattle.text.specs.Read.{Outcome, refused, accepted, askedOf, onPast, end, onStep, readParts, mostBytes, readText}
 
 -- a text that is accepted: what its head and its threads keep
 pub record Fitting (a : Asked) : Type 0 where

@@ -1,7 +1,5 @@
--- Laws of reading: the steps, as the code goes through them; the ends; what a reading keeps; what is accepted is legal; texts, computed.
-pub mod Steps
+-- Laws of reading: the ends and the parts of a text; what is accepted is legal; texts, computed; that no second answer meets the contract.
 pub mod Ends
-pub mod Keeps
 pub mod Legal
 pub mod Examples
 pub mod Unique

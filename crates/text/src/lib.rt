@@ -1,28 +1,17 @@
-// The text of a question, read: the question, or the refusal's number and line.
-use line::Field;
-use names::Budget;
-use names::Loc;
-use names::Thread;
-use program::Op;
-use program::Program;
+// The text of a question, read: the question, or the refusal's number and line. `read` takes any bytes at all. What it accepts is a legal
+// question (proofs/Legal.antt).
+use format::State;
 use program::Question;
-use program::Want;
 use question::Jump;
-use words::OpLine;
-use words::WantRead;
 ghost use mathlib.Core.Path.{_≡_};
-ghost use mathlib.Core.Bool.{true, false};
-ghost use mathlib.Core.List.{List, [], _∷_, _++_};
-ghost use Prim.Native.Nat.{ℕ, _+_, _<_, _≤_};
+ghost use mathlib.Core.List.{List};
+ghost use Prim.Native.Nat.{ℕ};
 ghost use lib.ListN.{length};
-ghost use Rattle.names.specs.Names.{threads as mostThreads, locations};
-ghost use Rattle.program.specs.Program.Wanted.{all};
-ghost use Rattle.program.specs.declared.Op.{Op};
-ghost use Rattle.words.specs.Op.{opLine};
-ghost use Rattle.question.specs.Question.{Asked, Short, asking, questionOf};
+ghost use Rattle.question.specs.Question.{Asked, Short, questionOf};
 ghost use Rattle.question.specs.Past.{past, firstThread};
-ghost use Rattle.text.specs.Read.{Head, So, nothing, threaded, located, budgeted, wanting, inside, fault, step, onTurn, onOp, threadLine, refused, onPast, end, parsedOf, readOf};
-ghost use Rattle.text.specs.Packed.{stateOf, packed, packedStep, BodyFits, Valid, Packs, InBody, Settles};
+ghost use Rattle.format.specs.Format.{So};
+ghost use Rattle.format.specs.Packed.{packed, Valid, Packs};
+ghost use Rattle.text.specs.Read.{refused, onPast, end, parsedOf, readOf, Settles};
 
 pub enum Verdict {
     Accepted,
@@ -36,242 +25,15 @@ pub struct Parsed {
     pub question: Question,
 }
 
-// What was read so far: which line is next, how many threads are behind the one that is open, and what the question is by now.
-pub struct State {
-    pub stage: u8,
-    pub done: u8,
-    pub question: Question,
-}
-
-// What a line does: the refusal's number, or 0 and what was read with it.
-pub struct Turn {
-    pub fault: u8,
-    pub state: State,
-}
-
-// A question of no instructions that asks for all memories.
-fn blank(threads: u8, locs: u8, budget: u32) -> Question
-    ensures { λ r. ⌜ r ≡ asking threads locs budget all [] ⌝ }
-{
-    let program = Program::empty(threads, locs);
-    let want = Want {
-        all: true,
-        count: 0,
-        values: [0u8; 6],
-    };
-    Question {
-        program,
-        budget: Budget(budget),
-        want,
-    }
-}
-
-fn fail(k: u8) -> Turn
-    ensures { λ r. ⌜ r ≡ packedStep (fault k) ⌝ }
-{
-    let question = blank(0, 0, 0);
-    Turn {
-        fault: k,
-        state: State {
-            stage: 0,
-            done: 0,
-            question,
-        },
-    }
-}
-
 fn refuse(k: u8, n: usize) -> Parsed
     ensures { λ r. ⌜ r ≡ parsedOf (refused k n) ⌝ }
 {
-    let question = blank(0, 0, 0);
+    let start = State::start();
+    let question = start.question;
     Parsed {
         verdict: Verdict::Refused(k, n),
         question,
     }
-}
-
-// What was read once a line of one number is.
-fn headed(stage: u8, threads: u8, locs: u8, budget: u32) -> Turn
-    ensures { λ r. ⌜ r ≡ record { fault = 0; state = stateOf stage 0 (asking threads locs budget all []) } ⌝ }
-{
-    let question = blank(threads, locs, budget);
-    Turn {
-        fault: 0,
-        state: State {
-            stage,
-            done: 0,
-            question,
-        },
-    }
-}
-
-// The first line.
-fn threads_line(s: &[u8]) -> Turn
-    ensures { λ r. ⌜ r ≡ packedStep (step nothing (now (s .entry))) ⌝ }
-{
-    match line::number_line(b"threads=", 1, Thread::LIMIT as u32, s) {
-        Field::Shape => fail(2),
-        Field::Limit => fail(3),
-        Field::Fine(n) => headed(1, n as u8, 0, 0),
-    }
-}
-
-// The second line.
-fn locs_line(t: u8, s: &[u8]) -> Turn
-    ensures { λ r. ⌜ r ≡ packedStep (step (threaded t) (now (s .entry))) ⌝ }
-{
-    match line::number_line(b"locs=", 1, Loc::LIMIT as u32, s) {
-        Field::Shape => fail(2),
-        Field::Limit => fail(3),
-        Field::Fine(n) => headed(2, t, n as u8, 0),
-    }
-}
-
-// The third line.
-fn budget_line(t: u8, n: u8, s: &[u8]) -> Turn
-    ensures { λ r. ⌜ r ≡ packedStep (step (located t n) (now (s .entry))) ⌝ }
-{
-    match line::number_line(b"budget=", 1, Budget::LIMIT, s) {
-        Field::Shape => fail(2),
-        Field::Limit => fail(3),
-        Field::Fine(b) => headed(3, t, n, b),
-    }
-}
-
-// The fourth line.
-fn want_line(t: u8, n: u8, b: u32, s: &[u8]) -> Turn
-    requires { ⌜ n ≤ locations ⌝ }
-    ensures { λ r. ⌜ r ≡ packedStep (step (budgeted t n b) (now (s .entry))) ⌝ }
-{
-    let r = words::want_line(s, n);
-    let k = r.state;
-    if k == 1 {
-        return fail(3);
-    }
-    if k != 0 {
-        return fail(2);
-    }
-    let program = Program::empty(t, n);
-    let want = r.want;
-    let question = Question {
-        program,
-        budget: Budget(b),
-        want,
-    };
-    Turn {
-        fault: 0,
-        state: State {
-            stage: 4,
-            done: 0,
-            question,
-        },
-    }
-}
-
-// A thread line of thread k, behind which the question does not change.
-fn thread_line(g: State, k: u8, s: &[u8]) -> Turn
-    requires { ⌜ k < mostThreads ⌝ }
-    ensures { λ r. ⌜ ((u : So) → stateOf 5 k (g .question) ≡ packed u → r ≡ packedStep (onTurn (threadLine k (now (s .entry))) u)) ⌝ }
-{
-    match line::number_line(b"thread=", k as u32, k as u32, s) {
-        Field::Shape => fail(2),
-        Field::Limit => fail(2),
-        Field::Fine(_) => {
-            let question = g.question;
-            Turn {
-                fault: 0,
-                state: State {
-                    stage: 5,
-                    done: k,
-                    question,
-                },
-            }
-        }
-    }
-}
-
-// An op line of the open thread.
-fn op_line(g: State, s: &[u8]) -> Turn
-    requires { ⌜ InBody g ⌝ }
-    ensures { λ r. ⌜ ((h : Head) (done : List (List Op)) (ops : List Op) → BodyFits h done ops → g ≡ packed (inside h done ops)
-        → r ≡ packedStep (onOp (opLine (h .locs) (now (s .entry))) ops (λ o. inside h done (ops ++ o ∷ [])))) ⌝ }
-{
-    let q = g.question;
-    let p = q.program;
-    let locs = p.locs;
-    match words::op_line(s, locs) {
-        OpLine::BadShape => fail(2),
-        OpLine::BadLimit => fail(3),
-        OpLine::Fine(o) => {
-            let k = g.done;
-            let counts = p.counts;
-            if Program::ROOM <= counts[k as usize] {
-                return fail(4);
-            }
-            let program = p.with(Thread(k), o);
-            let budget = q.budget;
-            let want = q.want;
-            let question = Question {
-                program,
-                budget,
-                want,
-            };
-            Turn {
-                fault: 0,
-                state: State {
-                    stage: 5,
-                    done: k,
-                    question,
-                },
-            }
-        }
-    }
-}
-
-// A line behind the first thread line: an op line, or the thread line of the next thread.
-fn body_line(g: State, s: &[u8]) -> Turn
-    requires { ⌜ InBody g ⌝ }
-    ensures { λ r. ⌜ ((h : Head) (done : List (List Op)) (ops : List Op) → BodyFits h done ops → g ≡ packed (inside h done ops)
-        → r ≡ packedStep (step (inside h done ops) (now (s .entry)))) ⌝ }
-{
-    if line::starts(b"op=", s) {
-        return op_line(g, s);
-    }
-    let q = g.question;
-    let p = q.program;
-    let threads = p.threads;
-    let k = g.done + 1;
-    if threads <= k {
-        return fail(2);
-    }
-    thread_line(g, k, s)
-}
-
-// A line, whichever is next.
-fn line_at(g: State, s: &[u8]) -> Turn
-    requires { ⌜ Packs g ⌝ }
-    ensures { λ r. ⌜ ((u : So) → Valid u → g ≡ packed u → r ≡ packedStep (step u (now (s .entry)))) ⌝ }
-{
-    let k = g.stage;
-    let q = g.question;
-    let p = q.program;
-    if k == 0 {
-        return threads_line(s);
-    }
-    if k == 1 {
-        return locs_line(p.threads, s);
-    }
-    if k == 2 {
-        return budget_line(p.threads, p.locs, s);
-    }
-    if k == 3 {
-        let b = q.budget;
-        return want_line(p.threads, p.locs, b.0, s);
-    }
-    if k == 4 {
-        return thread_line(g, 0, s);
-    }
-    body_line(g, s)
 }
 
 // The answer to a question that is whole: what is left to refuse is a bz past its thread's end.
@@ -317,12 +79,7 @@ pub fn read(text: &[u8]) -> Parsed
     if 1024 < text.len() {
         return refuse(1, 0);
     }
-    let q = blank(0, 0, 0);
-    let mut g = State {
-        stage: 0,
-        done: 0,
-        question: q,
-    };
+    let mut g = State::start();
     let mut a = 0;
     let mut n: usize = 1;
     loop {
@@ -330,7 +87,7 @@ pub fn read(text: &[u8]) -> Parsed
         if text.len() <= e {
             break;
         }
-        let r = line_at(g, &text[a..e]);
+        let r = format::line_at(g, &text[a..e]);
         let f = r.fault;
         if f != 0 {
             return refuse(f, n);

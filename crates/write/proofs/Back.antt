@@ -25,8 +25,9 @@ use Rattle.words.proofs.Op.{op-of, op-begins}
 use Rattle.words.proofs.Want.{want-of}
 use Rattle.question.specs.Question.{Asked, AllWithin, ThreadsWithin}
 use Rattle.question.specs.Past.{past, firstThread}
-use Rattle.text.specs.Read.{Head, So, nothing, threaded, located, budgeted, wanting, inside, next, step, threadsKey, locsKey, budgetKey, threadKey, accepted, askedOf, onPast, readParts, mostBytes, readText}
-use Rattle.text.specs.Packed.{HeadFits}
+use Rattle.format.specs.Format.{Head, So, nothing, threaded, located, budgeted, wanting, inside, next, step, threadsKey, locsKey, budgetKey, threadKey}
+use Rattle.format.specs.Packed.{HeadFits}
+use Rattle.text.specs.Read.{accepted, askedOf, onPast, readParts, mostBytes, readText}
 use Rattle.text.proofs.Legal.{Fitting}
 use Rattle.write.specs.Lines.{threadLines, headLines, linesOf, unlines, textOf}
 use Rattle.write.proofs.Bound.{longestText, text-long}

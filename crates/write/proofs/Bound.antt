@@ -16,7 +16,8 @@ use Rattle.words.specs.Op.{opText}
 use Rattle.words.specs.Want.{wantText}
 use Rattle.spell.proofs.Short.{op-short, want-short}
 use Rattle.question.specs.Question.{Asked, AllWithin, ThreadsWithin}
-use Rattle.text.specs.Read.{threadsKey, locsKey, budgetKey, threadKey, askedOf}
+use Rattle.format.specs.Format.{threadsKey, locsKey, budgetKey, threadKey}
+use Rattle.text.specs.Read.{askedOf}
 use Rattle.text.proofs.Legal.{Fitting}
 use Rattle.write.specs.Lines.{threadLines, headLines, linesOf, unlines, textOf}
 use Rattle.write.proofs.Written.{unlines-append}

@@ -26,7 +26,7 @@ use Rattle.number.proofs.Put.{length-put, put-then}
 use Rattle.line.specs.Split.{lineFeed}
 use Rattle.words.specs.Op.{opText}
 use Rattle.words.specs.Want.{wantText}
-use Rattle.text.specs.Read.{threadsKey, locsKey, budgetKey, threadKey}
+use Rattle.format.specs.Format.{threadsKey, locsKey, budgetKey, threadKey}
 use Rattle.px86.specs.declared.Refusal.the-variants.{Illegal, WrongWant, TooLong}
 use Rattle.write.specs.declared.Wrote.the-variants.{Length, Refused}
 use Rattle.write.specs.Lines.{threadLines, headLines, linesOf, unlines, textOf}

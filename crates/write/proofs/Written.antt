@@ -22,8 +22,9 @@ use Rattle.words.proofs.Op.{op-is}
 use Rattle.words.proofs.Want.{want-is}
 use Rattle.question.specs.Question.{Asked}
 use Rattle.question.specs.Past.{past, firstThread}
-use Rattle.text.specs.Read.{Head, So, nothing, threaded, located, budgeted, wanting, inside, next, step, threadsKey, locsKey, budgetKey, threadKey, threadLine, refused, accepted, askedOf, onPast, end, readParts, readText}
-use Rattle.text.proofs.Keeps.{on-number, on-want, on-turn, Goes, joins, opens, on-body}
+use Rattle.format.specs.Format.{Head, So, nothing, threaded, located, budgeted, wanting, inside, next, step, threadsKey, locsKey, budgetKey, threadKey, threadLine}
+use Rattle.format.proofs.Keeps.{on-number, on-want, on-turn, Goes, joins, opens, on-body}
+use Rattle.text.specs.Read.{refused, accepted, askedOf, onPast, end, readParts, readText}
 use Rattle.text.proofs.Legal.{on-step, past-fits, text-parts}
 use Rattle.write.specs.Lines.{threadLines, headLines, linesOf, unlines, textOf}
 

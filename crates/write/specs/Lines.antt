@@ -9,7 +9,7 @@ use Rattle.number.specs.Decimal.{decimal}
 use Rattle.line.specs.Split.{lineFeed}
 use Rattle.words.specs.Op.{opText}
 use Rattle.words.specs.Want.{wantText}
-use Rattle.text.specs.Read.{threadsKey, locsKey, budgetKey, threadKey}
+use Rattle.format.specs.Format.{threadsKey, locsKey, budgetKey, threadKey}
 
 -- the lines of threads, of which the first is thread k
 unfoldable pub threadLines : ℕ → List (List Op) → List (List ℕ)

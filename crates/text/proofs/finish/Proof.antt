@@ -1,10 +1,10 @@
 -- `text::finish` meets its contract. Assumes nothing.
 use mathlib.Core.Path.{ap, sym, subst, _∙_}
 use native.Mathlib.Omega.{arith}
-use Rattle.text.specs.declared.State.{State}
+use Rattle.format.specs.declared.State.{State}
+use Rattle.format.specs.Packed.{packed, Valid}
+use Rattle.format.proofs.Steps.{body-few, body-short, at-stage}
 use Rattle.text.specs.Read.{end, parsedOf}
-use Rattle.text.specs.Packed.{packed, Valid}
-use Rattle.text.proofs.Steps.{body-few, body-short, at-stage}
 use Rattle.text.proofs.Ends.{end-left, end-early, end-missing, end-whole, end-question, end-settles}
 use borrow.Author.Needs.{needs}
 use Rattle.text.proofs.finish.Statement.{statement}

@@ -4,13 +4,14 @@ use native.Mathlib.Omega.{arith}
 use mathlib.Core.Path.{_≡_, ap, sym, _∙_}
 use Prim.Native.Nat.{_+_, _-_, _≤_}
 use lib.ListN.{length, take, drop, length-take, length-drop}
-use Rattle.program.specs.declared.Question.{Question}
 use Rattle.line.specs.Split.{split, lineFeed}
 use Rattle.line.proofs.Split.{split-at-more, split-at-last}
-use Rattle.text.specs.Read.{So, nothing, Outcome, step, onStep, readParts, mostBytes, readText, parsedOf}
-use Rattle.text.specs.Packed.{stateOf, packed, Valid}
-use Rattle.text.proofs.Ends.{parts-next, parts-last, no-zero, stepped, faulted, read-long, read-short, read-is}
-use Rattle.text.proofs.Keeps.{valid-step}
+use Rattle.format.specs.Format.{So, nothing, step}
+use Rattle.format.specs.Packed.{packed, Valid}
+use Rattle.format.proofs.Keeps.{valid-step}
+use Rattle.format.proofs.Faults.{step-faults, stepped, faulted}
+use Rattle.text.specs.Read.{Outcome, onStep, readParts, mostBytes, readText, parsedOf}
+use Rattle.text.proofs.Ends.{parts-next, parts-last, read-long, read-short, read-is}
 use Rattle.text.proofs.read.Statement.{statement}
 use Rattle.text.proofs.read.Tie as tie
 
@@ -45,12 +46,12 @@ refuse-requires c κs = tt
 returns : tie.Need-returns Inv-loop μ-loop
 returns c = c .refuse .ensures ∙ read-long _ (c .before .if1 .taken)
 
-blank-requires : tie.Need-blank-requires Inv-loop μ-loop
-blank-requires c κs = tt
+start-requires : tie.Need-start-requires Inv-loop μ-loop
+start-requires c κs = tt
 
 loop-holds : tie.Need-loop-holds Inv-loop μ-loop
 loop-holds c =
-    (omega arith, omega arith, omega arith, (nothing, tt, ap (λ (q : Question). stateOf 0 0 q) (c .blank .ensures), read-short _ (omega arith)))
+    (omega arith, omega arith, omega arith, (nothing, tt, c .start .ensures, read-short _ (omega arith)))
 
 find-requires : tie.Need-find-requires Inv-loop μ-loop
 find-requires c κs = omega arith
@@ -102,7 +103,7 @@ loop-again c =
     let i = l .loop .inv .3 in
     let p = take (e - l .loop .a) (drop (l .loop .a) s) in
     let k : So → Outcome = λ u. readParts (split lineFeed (drop (e + 1) s)) u (l .loop .n + 1) in
-    let u = stepped (step (i .0) p) (d .line-at .result) (d .line-at .ensures (i .0) (i .1) (i .2)) (c .before .if3 .left) (no-zero (i .0) p) in (
+    let u = stepped (step (i .0) p) (d .line-at .result) (d .line-at .ensures (i .0) (i .1) (i .2)) (c .before .if3 .left) (step-faults (i .0) p) in (
       omega arith,
       omega arith,
       omega arith,
@@ -140,7 +141,7 @@ read-spec =
     μ-loop
     refuse-requires
     returns
-    blank-requires
+    start-requires
     loop-holds
     find-requires
     sub-line-at

@@ -9,7 +9,7 @@ use Rattle.number.specs.Put.{put}
 use Rattle.number.proofs.Put.{put-four}
 use Rattle.line.specs.Split.{lineFeed}
 use Rattle.words.specs.Want.{wantText}
-use Rattle.text.specs.Read.{threadsKey, locsKey, budgetKey}
+use Rattle.format.specs.Format.{threadsKey, locsKey, budgetKey}
 use Rattle.write.proofs.Pieces.{numberText, head-pieces, head-counted}
 use borrow.Author.Needs.{needs}
 use Rattle.write.proofs.put_head.Statement.{statement}

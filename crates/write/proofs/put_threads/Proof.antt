@@ -15,7 +15,7 @@ use Rattle.program.proofs.Tests.{Within, within}
 use Rattle.program.proofs.Threads.{threads-length}
 use Rattle.number.specs.Put.{put}
 use Rattle.number.proofs.Put.{put-nil}
-use Rattle.text.specs.Read.{threadKey}
+use Rattle.format.specs.Format.{threadKey}
 use Rattle.write.specs.Writing.{opsText, threadsText}
 use Rattle.write.proofs.Pieces.{numberText, thread-next, thread-over, put-both}
 use Rattle.write.proofs.put_threads.Statement.{statement}
