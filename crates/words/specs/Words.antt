@@ -29,81 +29,62 @@ rangeOf locs register = record { least = 0; most = registers - 1 }
 rangeOf locs byte = record { least = 0; most = 255 }
 rangeOf locs skip = record { least = 1; most = mostOps }
 
--- the words: st, sr, ld, cas, faa, mf, sf, fl, fo, bz
-abbrev pub word : Kind → List ℕ
-word WordSt = 115 ∷ 116 ∷ []
-word WordSr = 115 ∷ 114 ∷ []
-word WordLd = 108 ∷ 100 ∷ []
-word WordCas = 99 ∷ 97 ∷ 115 ∷ []
-word WordFaa = 102 ∷ 97 ∷ 97 ∷ []
-word WordMf = 109 ∷ 102 ∷ []
-word WordSf = 115 ∷ 102 ∷ []
-word WordFl = 102 ∷ 108 ∷ []
-word WordFo = 102 ∷ 111 ∷ []
-word WordBz = 98 ∷ 122 ∷ []
-word Other = []
-
-abbrev pub kinds : List Kind
-kinds = WordSt ∷ WordSr ∷ WordLd ∷ WordCas ∷ WordFaa ∷ WordMf ∷ WordSf ∷ WordFl ∷ WordFo ∷ WordBz ∷ []
-
--- the operands that a word asks for
-abbrev pub sorts : Kind → List Sort
-sorts WordSt = location ∷ byte ∷ []
-sorts WordSr = location ∷ register ∷ []
-sorts WordLd = register ∷ location ∷ []
-sorts WordCas = register ∷ location ∷ byte ∷ byte ∷ []
-sorts WordFaa = register ∷ location ∷ byte ∷ []
-sorts WordMf = []
-sorts WordSf = []
-sorts WordFl = location ∷ []
-sorts WordFo = location ∷ []
-sorts WordBz = register ∷ skip ∷ []
-sorts Other = []
-
 abbrev pub locAt : List ℕ → ℕ → Loc
 locAt vs i = record { 0 = getD vs i 0 }
 
 abbrev pub regAt : List ℕ → ℕ → Reg
 regAt vs i = record { 0 = getD vs i 0 }
 
--- the instruction that a word and its numbers make
-abbrev pub made : Kind → List ℕ → OpLine
-made WordSt vs = Fine (St (locAt vs 0) (getD vs 1 0))
-made WordSr vs = Fine (Sr (locAt vs 0) (regAt vs 1))
-made WordLd vs = Fine (Ld (regAt vs 0) (locAt vs 1))
-made WordCas vs = Fine (Cas (regAt vs 0) (locAt vs 1) (getD vs 2 0) (getD vs 3 0))
-made WordFaa vs = Fine (Faa (regAt vs 0) (locAt vs 1) (getD vs 2 0))
-made WordMf vs = Fine Mf
-made WordSf vs = Fine Sf
-made WordFl vs = Fine (Fl (locAt vs 0))
-made WordFo vs = Fine (Fo (locAt vs 0))
-made WordBz vs = Fine (Bz (regAt vs 0) (getD vs 1 0))
-made Other vs = BadShape
+-- a row: the word, the operands that it asks for, and the instruction that their numbers make
+pub record Row : Type 0 where
+  pub word : List ℕ
+  pub sorts : List Sort
+  pub made : List ℕ → OpLine
 
--- and back
+-- the rows: st, sr, ld, cas, faa, mf, sf, fl, fo, bz, and what is no word
+abbrev pub row : Kind → Row
+row WordSt = record { word = 115 ∷ 116 ∷ []; sorts = location ∷ byte ∷ []; made = λ vs. Fine (St (locAt vs 0) (getD vs 1 0)) }
+row WordSr = record { word = 115 ∷ 114 ∷ []; sorts = location ∷ register ∷ []; made = λ vs. Fine (Sr (locAt vs 0) (regAt vs 1)) }
+row WordLd = record { word = 108 ∷ 100 ∷ []; sorts = register ∷ location ∷ []; made = λ vs. Fine (Ld (regAt vs 0) (locAt vs 1)) }
+row WordCas = record { word = 99 ∷ 97 ∷ 115 ∷ []; sorts = register ∷ location ∷ byte ∷ byte ∷ []; made = λ vs. Fine (Cas (regAt vs 0) (locAt vs 1) (getD vs 2 0) (getD vs 3 0)) }
+row WordFaa = record { word = 102 ∷ 97 ∷ 97 ∷ []; sorts = register ∷ location ∷ byte ∷ []; made = λ vs. Fine (Faa (regAt vs 0) (locAt vs 1) (getD vs 2 0)) }
+row WordMf = record { word = 109 ∷ 102 ∷ []; sorts = []; made = λ vs. Fine Mf }
+row WordSf = record { word = 115 ∷ 102 ∷ []; sorts = []; made = λ vs. Fine Sf }
+row WordFl = record { word = 102 ∷ 108 ∷ []; sorts = location ∷ []; made = λ vs. Fine (Fl (locAt vs 0)) }
+row WordFo = record { word = 102 ∷ 111 ∷ []; sorts = location ∷ []; made = λ vs. Fine (Fo (locAt vs 0)) }
+row WordBz = record { word = 98 ∷ 122 ∷ []; sorts = register ∷ skip ∷ []; made = λ vs. Fine (Bz (regAt vs 0) (getD vs 1 0)) }
+row Other = record { word = []; sorts = []; made = λ vs. BadShape }
+
+abbrev pub kinds : List Kind
+kinds = WordSt ∷ WordSr ∷ WordLd ∷ WordCas ∷ WordFaa ∷ WordMf ∷ WordSf ∷ WordFl ∷ WordFo ∷ WordBz ∷ []
+
+abbrev pub word : Kind → List ℕ
+word k = row k .word
+
+abbrev pub sorts : Kind → List Sort
+sorts k = row k .sorts
+
+abbrev pub made : Kind → List ℕ → OpLine
+made k = row k .made
+
+-- and back: an instruction's word and operands
+abbrev pub spelled : Op → Kind × List ℕ
+spelled (St l v) = (WordSt, l .0 ∷ v ∷ [])
+spelled (Sr l r) = (WordSr, l .0 ∷ r .0 ∷ [])
+spelled (Ld r l) = (WordLd, r .0 ∷ l .0 ∷ [])
+spelled (Cas r l e n) = (WordCas, r .0 ∷ l .0 ∷ e ∷ n ∷ [])
+spelled (Faa r l v) = (WordFaa, r .0 ∷ l .0 ∷ v ∷ [])
+spelled Mf = (WordMf, [])
+spelled Sf = (WordSf, [])
+spelled (Fl l) = (WordFl, l .0 ∷ [])
+spelled (Fo l) = (WordFo, l .0 ∷ [])
+spelled (Bz r n) = (WordBz, r .0 ∷ n ∷ [])
+
 abbrev pub kindIs : Op → Kind
-kindIs (St l v) = WordSt
-kindIs (Sr l r) = WordSr
-kindIs (Ld r l) = WordLd
-kindIs (Cas r l e n) = WordCas
-kindIs (Faa r l v) = WordFaa
-kindIs Mf = WordMf
-kindIs Sf = WordSf
-kindIs (Fl l) = WordFl
-kindIs (Fo l) = WordFo
-kindIs (Bz r n) = WordBz
+kindIs o = spelled o .0
 
 abbrev pub operands : Op → List ℕ
-operands (St l v) = l .0 ∷ v ∷ []
-operands (Sr l r) = l .0 ∷ r .0 ∷ []
-operands (Ld r l) = r .0 ∷ l .0 ∷ []
-operands (Cas r l e n) = r .0 ∷ l .0 ∷ e ∷ n ∷ []
-operands (Faa r l v) = r .0 ∷ l .0 ∷ v ∷ []
-operands Mf = []
-operands Sf = []
-operands (Fl l) = l .0 ∷ []
-operands (Fo l) = l .0 ∷ []
-operands (Bz r n) = r .0 ∷ n ∷ []
+operands o = spelled o .1
 
 -- the first kind of ks whose word l is
 unfoldable pub named : List Kind → List ℕ → Kind
