@@ -1,5 +1,5 @@
-// What each line of a text has to be, from what was read before it. A reading starts with `State::start`, and `line_at` judges one line, given
-// without its line feed: it is refused with 2, 3 or 4, or the reading goes on. A line may be any bytes at all.
+// What each line of a text has to be, from what was read before it. Relied on: a reading starts with `State::start`, and `line_at` judges one
+// line, any bytes at all, given without its line feed: it is refused with 2, 3 or 4, or the reading goes on.
 use line::Field;
 use names::Budget;
 use names::Loc;

@@ -1,5 +1,5 @@
-// The text of a question, read: the question, or the refusal's number and line. `read` takes any bytes at all. What it accepts is a legal
-// question (proofs/Legal.antt).
+// The text of a question, read: the question, or the refusal's number and line. Relied on: `read` is a door over any bytes at all; what it
+// accepts is a legal question (proofs/Legal.antt), and where it refuses the question is blank.
 use format::State;
 use program::Question;
 use question::Jump;

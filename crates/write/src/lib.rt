@@ -1,4 +1,5 @@
-// The text of a question, written at the front of a lent buffer.
+// The text of a question, written at the front of a lent buffer. Relied on: `write` is a door; its answer and every byte of the lent buffer
+// are fixed for any question.
 use program::Cell;
 use program::Program;
 use program::Question;
