@@ -1,9 +1,11 @@
-//! Measures the program's walk beside the one written by hand: `pace GALLERY -- BENCH.. -- HAND..`, the command lines of `bench` and of
-//! pace/hand.rs. Each runs every question in turn, five times; the shortest time counts, less that of a question with one run.
+//! Measures the program's walk beside the one written by hand, and its reader: `pace GALLERY -- BENCH.. -- HAND.. -- ANSWERS..`, the command lines
+//! of `bench`, of pace/hand.rs and of `answers`. Each runs every question in turn, five times; the shortest time counts, less that of a question
+//! with one run, or of as many empty texts.
 
 use harness::hand::memory_number;
 use harness::pack::packed;
 use harness::program::{Question, Want};
+use harness::protocol::{Kind, Request};
 use harness::text;
 use std::io::Write;
 use std::path::Path;
@@ -27,24 +29,35 @@ const QUESTIONS: [(&str, &str); 3] = [
     ),
 ];
 
+/// As many requests as `answers` takes.
+const TEXTS: usize = 500;
+
+/// The four lines and the op lines of the longest text there is, 708 bytes.
+const LONGEST_HEAD: &str = "threads=4\nlocs=6\nbudget=1000000000\nwant=255,255,255,255,255,255\n";
+const LONGEST_OP: &str = "op=cas,3,5,255,255\n";
+
 const GALLERY: [&str; 4] = ["store-buffering-fenced", "two-writers-locked", "tare-replaced", "log-fenced"];
 
 fn main() {
     let words: Vec<String> = std::env::args().skip(1).collect();
     let parts: Vec<&[String]> = words.split(|word| word == "--").collect();
-    let [[gallery], bench, hand] = parts[..] else {
-        eprintln!("usage: pace GALLERY -- BENCH.. -- HAND..");
+    let [[gallery], bench, hand, answers] = parts[..] else {
+        eprintln!("usage: pace GALLERY -- BENCH.. -- HAND.. -- ANSWERS..");
         std::process::exit(2);
     };
-    let mut questions: Vec<(String, String)> = QUESTIONS.iter().map(|(name, text)| (name.to_string(), text.to_string())).collect();
+    let mut questions: Vec<(String, String)> =
+        QUESTIONS.iter().map(|(name, text)| (name.to_string(), text.to_string())).collect();
+    let of_gallery = |name: &str| {
+        std::fs::read_to_string(Path::new(gallery).join(name).with_extension("txt")).expect("a text of the gallery")
+    };
     for name in GALLERY {
-        let text = std::fs::read_to_string(Path::new(gallery).join(name).with_extension("txt")).expect("a text of the gallery");
-        questions.push((name.to_string(), text));
+        questions.push((name.to_string(), of_gallery(name)));
     }
     let bench_start = shortest(bench, ONE_RUN.as_bytes()).0;
     let hand_start = shortest(hand, &bytes(ONE_RUN)).0;
     println!("| question | runs | bench, runs a second | by hand, runs a second | by hand, times as fast |");
     println!("|---|---|---|---|---|");
+    let mut run_of_a = None;
     for (name, text) in questions {
         let (mine, _) = shortest(bench, text.as_bytes());
         let (other, said) = shortest(hand, &bytes(&text));
@@ -52,7 +65,27 @@ fn main() {
         let mine = mine.saturating_sub(bench_start).as_secs_f64();
         let other = other.saturating_sub(hand_start).as_secs_f64();
         println!("| {name} | {runs} | {:.0} | {:.0} | {:.1} |", runs as f64 / mine, runs as f64 / other, mine / other);
+        run_of_a.get_or_insert(mine / runs as f64);
     }
+    let run_of_a = run_of_a.expect("question a");
+    let no_text = shortest(answers, &read_only("")).0;
+    println!("\n| text | bytes | read, texts a second | as long as so many runs of a |");
+    println!("|---|---|---|---|");
+    for (name, text) in [("document 01's example", of_gallery("tare-flushed")), ("the longest", longest())] {
+        let one = shortest(answers, &read_only(&text)).0.saturating_sub(no_text).as_secs_f64() / TEXTS as f64;
+        println!("| {name} | {} | {:.0} | {:.0} |", text.len(), 1.0 / one, one / run_of_a);
+    }
+}
+
+/// Requests that do little more than read this text: to follow no codes.
+fn read_only(text: &str) -> Vec<u8> {
+    let request = Request { kind: Kind::Follow, lent: 0, text: text.into(), codes: vec![] };
+    request.bytes().repeat(TEXTS)
+}
+
+fn longest() -> String {
+    let threads = (0..4).map(|t| format!("thread={t}\n{}", LONGEST_OP.repeat(8)));
+    LONGEST_HEAD.to_string() + &threads.collect::<String>()
 }
 
 /// The question as pace/hand.rs reads it.
@@ -78,7 +111,12 @@ fn bytes(text: &str) -> Vec<u8> {
 fn shortest(command: &[String], input: &[u8]) -> (Duration, Vec<u8>) {
     let runs = (0..TIMES).map(|_| {
         let start = Instant::now();
-        let mut child = Command::new(&command[0]).args(&command[1..]).stdin(Stdio::piped()).stdout(Stdio::piped()).spawn().expect("the command");
+        let mut child = Command::new(&command[0])
+            .args(&command[1..])
+            .stdin(Stdio::piped())
+            .stdout(Stdio::piped())
+            .spawn()
+            .expect("the command");
         child.stdin.take().expect("its input").write_all(input).expect("its input");
         let output = child.wait_with_output().expect("its output");
         (start.elapsed(), output.stdout)
