@@ -25,6 +25,7 @@ pub struct Parsed {
     pub question: Question,
 }
 
+// Refused with the number k at line n. The question is the one before the first line, which is blank.
 fn refuse(k: u8, n: usize) -> Parsed
     ensures { λ r. ⌜ r ≡ parsedOf (refused k n) ⌝ }
 {
