@@ -1,1 +1,4 @@
 -- Laws of mending.
+pub mod Turn
+pub mod Whole
+pub mod Plain
