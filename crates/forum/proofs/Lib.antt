@@ -1,1 +1,2 @@
 -- Laws of mending.
+pub mod Neat
