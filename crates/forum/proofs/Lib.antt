@@ -1,2 +1,3 @@
 -- Laws of mending.
 pub mod Neat
+pub mod Lines
