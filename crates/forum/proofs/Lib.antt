@@ -1,3 +1,5 @@
 -- Laws of mending.
 pub mod Neat
 pub mod Lines
+pub mod Parts
+pub mod Again
