@@ -3,3 +3,5 @@ pub mod Neat
 pub mod Lines
 pub mod Parts
 pub mod Again
+pub mod Count
+pub mod Exactly
