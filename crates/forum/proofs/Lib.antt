@@ -5,3 +5,4 @@ pub mod Parts
 pub mod Again
 pub mod Count
 pub mod Exactly
+pub mod Reported
