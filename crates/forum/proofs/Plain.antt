@@ -2,27 +2,19 @@
 use mathlib.Core.Path.{_≡_, refl, sym, _∙_, ap}
 use mathlib.Core.Bool.{Bool, true, false}
 use mathlib.Core.List.{List, [], _∷_, _++_}
-use Prim.Native.Nat.{ℕ, suc, _+_, _-_, _≤_, _<_}
+use Prim.Native.Nat.{ℕ, suc, _+_, _-_, _≤_}
 use native.Mathlib.Omega.{arith}
-use borrow.Author.Tests.{ltb-true, ltb-false, lt-ltb, le-ltb}
+use borrow.Author.Tests.{lt-ltb}
 use lib.Dec.{eqb, ltb}
 use lib.ListN.{length, take, drop, length-append, length-drop}
 use Rattle.names.specs.Names.{pick}
 use Rattle.line.specs.Split.{lineFeed, before}
-use Rattle.forum.specs.declared.Changed.{Changed}
 use Rattle.forum.specs.declared.Sewn.{Sewn}
 use Rattle.forum.specs.Mend.{carriageReturn, space, trimmed, stripped, plain, has, changedIn}
-use Rattle.forum.specs.Sewn.{behind, comes, sewnLine, changedLine, sewnAt}
-use Rattle.forum.proofs.Turn.{trimmed-front}
-use Rattle.forum.proofs.Whole.{trimmed-length, comes-not}
-
--- a test of two numbers, by another of two that are less or not together with them
-alike : (a b c d : ℕ) → (a < b → c < d) → (b ≤ a → d ≤ c) → ltb c d ≡ ltb a b
-alike a b c d h k = go (ltb a b) refl
-  where
-    go : (t : Bool) → ltb a b ≡ t → ltb c d ≡ t
-    go true e = lt-ltb c d (h (ltb-true a b e))
-    go false e = le-ltb c d (k (ltb-false a b e))
+use Rattle.forum.specs.Sewn.{comes, sewnLine, changedLine, sewnAt}
+use Rattle.forum.proofs.Short.{trimmed-front, trimmed-short}
+use Rattle.forum.proofs.Count.{ltb-both}
+use Rattle.forum.proofs.Whole.{comes-not}
 
 -- a byte is there if it is found before the end
 has-before : (b : ℕ) (l : List ℕ) → has b l ≡ ltb (length (before b l)) (length l)
@@ -32,14 +24,14 @@ has-before b (c ∷ l) = go (eqb c b) refl (has-before b l)
   where
     go : (t : Bool) → eqb c b ≡ t → has b l ≡ ltb (length (before b l)) (length l) → has b (c ∷ l) ≡ ltb (length (before b (c ∷ l))) (length (c ∷ l))
     go true e ih = rw e (sym (lt-ltb 0 (suc (length l)) (omega arith)))
-    go false e ih = rw e (ih ∙ sym (alike (length (before b l)) (length l) (suc (length (before b l))) (suc (length l)) (λ i. omega arith) (λ i. omega arith)))
+    go false e ih = rw e (ih ∙ ltb-both (length (before b l)) (length l) (suc (length (before b l))) (suc (length l)) (λ i. omega arith) (λ i. omega arith))
 
 pub has-found : (b : ℕ) (s : List ℕ) (n f : ℕ) → n ≤ length s → f ≡ n + length (before b (drop n s)) → ltb f (length s) ≡ has b (drop n s)
 has-found b s n f h e =
     let k : length s ≡ n + length (drop n s) = omega (arith, length-drop n s) in
     let a = length (before b (drop n s)) in
     let m = length (drop n s) in
-    rw (e, k) (alike a m (n + a) (n + m) (λ i. omega arith) (λ i. omega arith) ∙ sym (has-before b (drop n s)))
+    rw (e, k) (ltb-both (n + a) (n + m) a m (λ i. omega arith) (λ i. omega arith) ∙ sym (has-before b (drop n s)))
 
 -- a line without its line feed: n of its bytes stay at its end, and e is the place behind what was written
 module _ (s : List ℕ) (at n e : ℕ) (trim : n ≡ length (trimmed s)) where
@@ -54,7 +46,7 @@ module _ (s : List ℕ) (at n e : ℕ) (trim : n ≡ length (trimmed s)) where
       (sewnAt at (plain s) (changedIn false s))
   unfolding changedIn
   plain-made f g p q r =
-      let h : n ≤ length s = omega (arith, trimmed-length s) in
+      let h : n ≤ length s = omega (arith, trimmed-short s) in
       let a : ltb f (length s) ≡ has carriageReturn (drop (length (trimmed s)) s) =
       has-found carriageReturn s n f h q ∙ ap (λ (k : ℕ). has carriageReturn (drop k s)) trim in
       let b : ltb g (length s) ≡ has space (drop (length (trimmed s)) s) =

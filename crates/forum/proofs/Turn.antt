@@ -1,17 +1,17 @@
 -- One turn of the loops that look for a line's end and that strip zeros. Assumes nothing.
-use mathlib.Core.Path.{_≡_, refl, ap}
+use mathlib.Core.Path.{_≡_, refl}
 use mathlib.Core.Bool.{Bool, true, false}
 use mathlib.Core.List.{List, [], _∷_}
 use Prim.Native.Nat.{ℕ, zero, suc, _+_, _≤_, _<_}
 use native.Mathlib.Omega.{arith}
 use native.Mathlib.Numerals.{add-one}
 use borrow.Author.Tests.{eq-eqb, ne-eqb}
-use lib.Dec.{eqb}
-use lib.ListN.{length, getD, take, drop, drop-of-length-le}
+use lib.ListN.{length, getD, drop, drop-of-length-le}
 use lib.Seq.{drop-cons}
 use Rattle.names.specs.Names.{pick}
 use Rattle.number.specs.Decimal.{isDigit}
 use Rattle.forum.specs.Mend.{carriageReturn, space, goes, allGo, trimmed, zeroDigit, leads, stripped}
+use Rattle.forum.proofs.Lines.{trimmed-none}
 
 -- a byte that goes at a line's end, and one that does not
 pub goes-return : (c : ℕ) → c ≡ carriageReturn → goes c ≡ true
@@ -25,12 +25,6 @@ goes-space c e = rw e
 pub goes-not : (c : ℕ) → (c ≡ carriageReturn → ⊥) → (c ≡ space → ⊥) → goes c ≡ false
 unfolding pick
 goes-not c h k = rw (ne-eqb c carriageReturn h, ne-eqb c space k)
-
--- where all goes, nothing is left
-pub trimmed-none : (l : List ℕ) → allGo l ≡ true → trimmed l ≡ []
-unfolding trimmed pick
-trimmed-none [] e = refl
-trimmed-none (c ∷ l) e = rw e
 
 -- a byte that stays, and all before it
 stays-somewhere : (l : List ℕ) (k : ℕ) → k < length l → goes (getD l k 0) ≡ false → allGo l ≡ false
@@ -53,16 +47,6 @@ trimmed-at (c ∷ l) (suc k) h e a = rw (stays-somewhere (c ∷ l) (suc k) h e, 
 pub all-go-on : (l : List ℕ) (k : ℕ) → k < length l → goes (getD l k 0) ≡ true → allGo (drop (suc k) l) ≡ true → allGo (drop k l) ≡ true
 unfolding allGo pick
 all-go-on l k h e a = rw (drop-cons l k 0 h, e, a)
-
--- what is left of a line is its front
-pub trimmed-front : (l : List ℕ) → take (length (trimmed l)) l ≡ trimmed l
-unfolding trimmed pick
-trimmed-front [] = refl
-trimmed-front (c ∷ l) = go (allGo (c ∷ l)) refl (trimmed-front l)
-  where
-    go : (t : Bool) → allGo (c ∷ l) ≡ t → take (length (trimmed l)) l ≡ trimmed l → take (length (trimmed (c ∷ l))) (c ∷ l) ≡ trimmed (c ∷ l)
-    go true e ih = rw e
-    go false e ih = rw e (ap (λ (r : List ℕ). c ∷ r) ih)
 
 -- the byte at place i leads a run of digits and goes, or not
 module _ (s : List ℕ) (i : ℕ) where

@@ -2,53 +2,21 @@
 use mathlib.Core.Path.{_≡_, refl, sym, subst, _∙_, ap}
 use mathlib.Core.Bool.{Bool, true, false}
 use mathlib.Core.List.{List, [], _∷_, _++_, map, append-assoc, append-nil}
-use Prim.Native.Nat.{ℕ, suc, _+_, _-_, _≤_}
+use Prim.Native.Nat.{ℕ, _+_, _-_, _≤_}
 use native.Mathlib.Omega.{arith}
-use borrow.Author.Tests.{eqb-false, ne-eqb, leb-true, leb-false}
-use lib.Dec.{eqb, leb}
+use borrow.Author.Tests.{ne-eqb, leb-true, leb-false}
+use lib.Dec.{leb}
 use lib.ListN.{length, take, drop, length-append}
 use Rattle.names.specs.Names.{pick}
-use Rattle.number.specs.Decimal.{isDigit}
-use Rattle.line.specs.Split.{lineFeed, onFirst, split, before}
+use Rattle.line.specs.Split.{lineFeed, split, before}
 use Rattle.line.specs.Join.{join, Clean, AllClean}
 use Rattle.line.proofs.Split.{split-some, split-at-more, split-at-last}
-use Rattle.line.proofs.Join.{join-split}
-use Rattle.forum.specs.declared.Changed.{Changed}
-use Rattle.forum.specs.Mend.{allGo, trimmed, leads, stripped, plain, left, lacks, mended, changedIn, changesIn, changesOf}
+use Rattle.line.proofs.Join.{join-split, clean-split}
+use Rattle.forum.specs.Mend.{plain, left, lacks, mended, changesIn, changesOf}
 use Rattle.forum.specs.Sewn.{behind, comes, sewnLine, changedLine, sewn, changedLines}
-
--- NO LINE FEED IN A LINE, mended or not
-pub clean-split : (b : ℕ) (l : List ℕ) → AllClean b (split b l)
-unfolding split pick
-clean-split b [] = (tt, tt)
-clean-split b (c ∷ l) = go (eqb c b) refl (split b l) (clean-split b l)
-  where
-    go : (t : Bool) → eqb c b ≡ t → (ps : List (List ℕ)) → AllClean b ps → AllClean b (pick t ([] ∷ ps) (onFirst c ps))
-    go true e ps h = (tt, h)
-    go false e [] h = ((eqb-false c b e, tt), tt)
-    go false e (p ∷ ps) h = ((eqb-false c b e, h .0), h .1)
-
-clean-trimmed : (b : ℕ) (p : List ℕ) → Clean b p → Clean b (trimmed p)
-unfolding trimmed pick
-clean-trimmed b [] h = tt
-clean-trimmed b (c ∷ p) h = go (allGo (c ∷ p)) (clean-trimmed b p (h .1))
-  where
-    go : (t : Bool) → Clean b (trimmed p) → Clean b (pick t [] (c ∷ trimmed p))
-    go true ih = tt
-    go false ih = (h .0, ih)
-
-clean-stripped : (b : ℕ) (begun : Bool) (p : List ℕ) → Clean b p → Clean b (stripped begun p)
-unfolding stripped pick
-clean-stripped b begun [] h = tt
-clean-stripped b begun (c ∷ p) h = go (leads begun c p) (clean-stripped b false p (h .1)) (clean-stripped b (isDigit c) p (h .1))
-  where
-    go : (t : Bool) → Clean b (stripped false p) → Clean b (stripped (isDigit c) p) → Clean b (pick t (stripped false p) (c ∷ stripped (isDigit c) p))
-    go true i j = i
-    go false i j = (h .0, j)
-
-pub clean-plain : (b : ℕ) (p : List ℕ) → Clean b p → Clean b (plain p)
-unfolding plain
-clean-plain b p h = clean-stripped b false (trimmed p) (clean-trimmed b p h)
+use Rattle.forum.proofs.Lines.{clean-plain}
+use Rattle.forum.proofs.Short.{plain-short}
+use Rattle.forum.proofs.Parts.{lacks-behind}
 
 -- THE LAST LINE FEED is lacked where the last line is not empty
 lacks-clean : (p : List ℕ) → Clean lineFeed p → lacks p ≡ comes true p
@@ -56,13 +24,6 @@ unfolding lacks pick
 lacks-clean [] h = refl
 lacks-clean (c ∷ []) h = rw (ne-eqb c lineFeed (h .0))
 lacks-clean (c ∷ d ∷ p) h = lacks-clean (d ∷ p) (h .1)
-
-pub lacks-behind : (u v : List ℕ) → lacks (u ++ lineFeed ∷ v) ≡ lacks v
-unfolding lacks pick
-lacks-behind [] [] = refl
-lacks-behind [] (d ∷ v) = refl
-lacks-behind (c ∷ []) v = lacks-behind [] v
-lacks-behind (c ∷ d ∷ u) v = lacks-behind (d ∷ u) v
 
 closing : (q : List ℕ) → q ++ behind true q ≡ pick (comes true q) (q ++ lineFeed ∷ []) q
 unfolding pick
@@ -131,30 +92,6 @@ unfolding changedLines
 changed-last p = refl
 
 -- THEOREM: a mended text is at most one byte longer
-pub trimmed-length : (p : List ℕ) → length (trimmed p) ≤ length p
-unfolding trimmed pick
-trimmed-length [] = omega arith
-trimmed-length (c ∷ p) = go (allGo (c ∷ p)) (trimmed-length p)
-  where
-    go : (t : Bool) → length (trimmed p) ≤ length p → length (pick t [] (c ∷ trimmed p)) ≤ suc (length p)
-    go true ih = omega arith
-    go false ih = omega arith
-
-stripped-length : (begun : Bool) (p : List ℕ) → length (stripped begun p) ≤ length p
-unfolding stripped pick
-stripped-length begun [] = omega arith
-stripped-length begun (c ∷ p) = go (leads begun c p) (stripped-length false p) (stripped-length (isDigit c) p)
-  where
-    go :
-        (t : Bool) → length (stripped false p) ≤ length p → length (stripped (isDigit c) p) ≤ length p
-        → length (pick t (stripped false p) (c ∷ stripped (isDigit c) p)) ≤ suc (length p)
-    go true a b = omega arith
-    go false a b = omega arith
-
-pub plain-length : (p : List ℕ) → length (plain p) ≤ length p
-unfolding plain
-plain-length p = omega (arith, stripped-length false (trimmed p), trimmed-length p)
-
 behind-length : (last : Bool) (q : List ℕ) → length (behind last q) ≤ 1
 behind-length true [] = omega arith
 behind-length true (c ∷ q) = omega arith
@@ -162,9 +99,9 @@ behind-length false q = omega arith
 
 sewn-length : (p : List ℕ) (ps : List (List ℕ)) → length (sewn (p ∷ ps)) ≤ length (join lineFeed (p ∷ ps)) + 1
 unfolding sewn join
-sewn-length p [] = omega (arith, length-append (plain p) (behind true (plain p)), behind-length true (plain p), plain-length p)
+sewn-length p [] = omega (arith, length-append (plain p) (behind true (plain p)), behind-length true (plain p), plain-short p)
 sewn-length p (q ∷ r) =
-    omega (arith, length-append (sewnLine false p) (sewn (q ∷ r)), length-append (plain p) (lineFeed ∷ []), plain-length p, sewn-length q r, length-append p (lineFeed ∷ join lineFeed (q ∷ r)))
+    omega (arith, length-append (sewnLine false p) (sewn (q ∷ r)), length-append (plain p) (lineFeed ∷ []), plain-short p, sewn-length q r, length-append p (lineFeed ∷ join lineFeed (q ∷ r)))
 
 pub mended-length : (l : List ℕ) → length (mended l) ≤ length l + 1
 mended-length l =

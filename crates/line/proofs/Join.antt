@@ -8,7 +8,7 @@ use native.Mathlib.Numerals.{add-one}
 use lib.Dec.{eqb, ltb}
 use lib.ListN.{length, take, drop, getD, length-append, drop-of-length-le}
 use lib.Seq.{drop-cons, length-take-le, getD-take}
-use borrow.Author.Tests.{eqb-true, ne-eqb, eq-eqb}
+use borrow.Author.Tests.{eqb-true, eqb-false, ne-eqb, eq-eqb}
 use Rattle.names.specs.Names.{pick}
 use Rattle.number.specs.Decimal.{digits, decimal}
 use Rattle.line.specs.Split.{onFirst, split}
@@ -53,6 +53,30 @@ pub split-join : (b : ℕ) (p : List ℕ) (ps : List (List ℕ)) → Clean b p �
 unfolding join pick
 split-join b p [] h k = split-whole b p h
 split-join b p (q ∷ r) h k = split-clean b p (join b (q ∷ r)) h ∙ ap (λ (l : List (List ℕ)). p ∷ l) (split-join b q r (k .0) (k .1))
+
+-- no part has a separator in it
+clean-first : (b c : ℕ) (ps : List (List ℕ)) → (c ≡ b → ⊥) → AllClean b ps → AllClean b (onFirst c ps)
+clean-first b c [] n h = ((n, tt), tt)
+clean-first b c (p ∷ ps) n h = ((n, h .0), h .1)
+
+pub clean-split : (b : ℕ) (l : List ℕ) → AllClean b (split b l)
+unfolding split pick
+clean-split b [] = (tt, tt)
+clean-split b (c ∷ l) = go (eqb c b) refl (clean-split b l)
+  where
+    go : (t : Bool) → eqb c b ≡ t → AllClean b (split b l) → AllClean b (split b (c ∷ l))
+    go true e ih = rw e (tt, ih)
+    go false e ih = rw e (clean-first b c (split b l) (eqb-false c b e) ih)
+
+-- a separator behind the text: an empty part behind its parts
+pub split-behind : (b : ℕ) (l : List ℕ) → split b (l ++ b ∷ []) ≡ split b l ++ [] ∷ []
+unfolding split pick
+split-behind b [] = rw (eq-eqb b b refl)
+split-behind b (c ∷ l) = go (eqb c b) refl (split-behind b l)
+  where
+    go : (t : Bool) → eqb c b ≡ t → split b (l ++ b ∷ []) ≡ split b l ++ [] ∷ [] → split b (c ∷ l ++ b ∷ []) ≡ split b (c ∷ l) ++ [] ∷ []
+    go true e ih = rw (e, ih)
+    go false e ih = let f = split-some b l in rw (e, ih, f .2)
 
 -- a number's text has only digits
 pub clean-append : (b : ℕ) (p q : List ℕ) → Clean b p → Clean b q → Clean b (p ++ q)

@@ -104,3 +104,17 @@ split-first b (c ∷ l) = go (eqb c b) refl (split-first b l)
         → split b (c ∷ l) ≡ before b (c ∷ l) ∷ later (split b (c ∷ l))
     go true e ih = rw e
     go false e ih = rw (e, ih)
+
+-- one part more than bytes, at most
+pub split-length : (b : ℕ) (l : List ℕ) → length (split b l) ≤ suc (length l)
+unfolding split pick
+split-length b [] = omega arith
+split-length b (c ∷ l) = go (eqb c b) refl (split-length b l)
+  where
+    first : (ps : List (List ℕ)) → length ps ≤ suc (length l) → length (onFirst c ps) ≤ suc (suc (length l))
+    first [] h = omega arith
+    first (p ∷ ps) h = omega arith
+
+    go : (t : Bool) → eqb c b ≡ t → length (split b l) ≤ suc (length l) → length (split b (c ∷ l)) ≤ suc (suc (length l))
+    go true e h = rw e (omega arith)
+    go false e h = rw e (first (split b l) h)

@@ -5,7 +5,7 @@ use mathlib.Core.Bool.{true, false}
 use mathlib.Core.List.{List, [], _∷_, _++_, append-assoc}
 use native.Mathlib.Omega.{arith}
 use native.Mathlib.Nat.{mul-comm}
-use lib.ListN.{length, take, drop, replicate}
+use lib.ListN.{length, take, replicate}
 use lib.Seq.{take-at, drop-at, take-append-le}
 use Rattle.names.specs.Names.{pick}
 use Rattle.tables.specs.Tables.{rows, padded}
@@ -13,8 +13,6 @@ use Rattle.tables.proofs.Packed.{padded-length}
 use Rattle.program.specs.declared.Want.{Want}
 use Rattle.program.specs.Program.{wantedOf}
 use Rattle.program.specs.Program.Wanted.{all, one}
-use Rattle.number.specs.Put.{put}
-use Rattle.number.proofs.Put.{length-put}
 use Rattle.px86.specs.Ask.{Answer}
 use Rattle.px86.specs.Ask.Answer.{every, reached, never, none}
 use Rattle.rows.specs.Rows.{flat, Wide}
@@ -77,15 +75,3 @@ module _ (w : ℕ) (o : List ℕ) (a : Coded) where
   pub says-refusal : (x : Refusal) → a ≡ coded.Refused x → said (heard w o a) ≡ refusalText x
   unfolding said heard
   says-refusal x e = rw e
-
--- a text that was put at the front, and 0 behind it
-front-put : (d t : List ℕ) → take (length t) (put d 0 t) ≡ t
-unfolding put
-front-put d t = take-at t (drop (0 + length t) d) (length t) refl
-
-pub front-zeros : (d b t : List ℕ) (n m : ℕ) → b ≡ put d 0 t → n ≡ length t → length d ≡ m → length t ≤ m
-    → take n b ++ replicate (length b - n) 0 ≡ padded m 0 t
-unfolding padded
-front-zeros d b t n m p e k h =
-    let l : length (put d 0 t) ≡ m = length-put d 0 t (omega arith) ∙ k in
-    rw (p, e, l, front-put d t) refl

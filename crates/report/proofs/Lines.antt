@@ -10,7 +10,8 @@ use lib.Dec.{ltb, eqb}
 use lib.ListN.{length, length-append}
 use Rattle.names.specs.Names.{pick}
 use Rattle.program.specs.declared.Op.{Op}
-use Rattle.line.specs.Split.{onFirst, split, lineFeed}
+use Rattle.line.specs.Split.{split, lineFeed}
+use Rattle.line.proofs.Split.{split-length}
 use Rattle.question.specs.Question.{Asked, Short}
 use Rattle.question.specs.Past.{leaps, pastIn, orElse, past, firstThread}
 use Rattle.question.proofs.Four.{short-last}
@@ -98,20 +99,6 @@ parts-numbered (p ∷ []) u n v h = end-numbered u n p v (omega arith)
 parts-numbered (p ∷ q ∷ r) u n v h =
     step-numbered (step u p) n (λ w. readParts (q ∷ r) w (n + 1)) (step-faults u p) (omega arith)
     (λ w e. parts-numbered (q ∷ r) w (n + 1) (valid-step u w p v e) (omega arith))
-
--- there are at most as many lines as line feeds, and what stands behind the last
-split-length : (b : ℕ) (l : List ℕ) → length (split b l) ≤ suc (length l)
-unfolding split pick
-split-length b [] = omega arith
-split-length b (c ∷ l) = go (eqb c b) refl (split-length b l)
-  where
-    first : (ps : List (List ℕ)) → length ps ≤ suc (length l) → length (onFirst c ps) ≤ suc (suc (length l))
-    first [] h = omega arith
-    first (p ∷ ps) h = omega arith
-
-    go : (t : Bool) → eqb c b ≡ t → length (split b l) ≤ suc (length l) → length (split b (c ∷ l)) ≤ suc (suc (length l))
-    go true e h = rw e (omega arith)
-    go false e h = rw e (first (split b l) h)
 
 -- THEOREM: the reader's refusals have the numbers 1 to 5 at most, and a line
 pub read-numbered : (l : List ℕ) → Numbered (readText l)

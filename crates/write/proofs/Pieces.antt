@@ -8,7 +8,7 @@ use native.Mathlib.Omega.{arith}
 use borrow.Author.Tests.{eqb-true, le-leb, lt-leb}
 use lib.Dec.{leb}
 use lib.ListN.{length, getD, take, drop, replicate, length-append, drop-of-length-le}
-use lib.Seq.{drop-cons, append-snoc, take-append-seam}
+use lib.Seq.{drop-cons, append-snoc}
 use Rattle.names.specs.Names.{pick, threads, locations, isBudget}
 use Rattle.tables.specs.Tables.{padded}
 use Rattle.program.specs.declared.Op.{Op}
@@ -22,6 +22,7 @@ use Rattle.program.proofs.Turns.{ops-cons, ops-none}
 use Rattle.program.proofs.Legal.{kept, legal-width}
 use Rattle.number.specs.Decimal.{decimal}
 use Rattle.number.specs.Put.{put}
+use Rattle.line.proofs.Front.{front-zeros}
 use Rattle.number.proofs.Put.{length-put, put-then}
 use Rattle.line.specs.Split.{lineFeed}
 use Rattle.words.specs.Op.{opText}
@@ -54,11 +55,6 @@ number-line w n = append-assoc w (decimal n) (lineFeed ∷ [])
 unlines-none : unlines [] ≡ []
 unfolding unlines
 unlines-none = refl
-
--- what was put at the front
-pub put-front : (d s : List ℕ) (n : ℕ) → n ≡ length s → take n (put d 0 s) ≡ s
-unfolding put
-put-front d s n e = rw e (take-append-seam s (drop (0 + length s) d))
 
 -- op lines
 module _ (cells : List Cell) (t n : ℕ) (fits : t * mostOps + n ≤ length cells) where
@@ -178,9 +174,7 @@ module _ (q : Question) where
     writes-text n b z h r e room eb ez =
         let t = textIn q in
         let k : length t ≤ length o = omega arith in
-        let long : length b ≡ length o = ap length eb ∙ length-put o 0 t (omega arith) in
-        let front : take n b ≡ t = ap (λ (x : List ℕ). take n x) eb ∙ put-front o t n e in
-        (rw (h, r, le-leb (length t) (length o) k, e), rw (h, r, le-leb (length t) (length o) k) (ez ∙ rw (front, long, e)))
+        (rw (h, r, le-leb (length t) (length o) k, e), rw (h, r, le-leb (length t) (length o) k) (ez ∙ front-zeros o b t n (length o) eb e refl k))
 
 -- two pieces, and what is left to write behind them
 pub put-both :

@@ -2,7 +2,6 @@
 use borrow.Author.Needs.{needs}
 use mathlib.Core.Path.{sym, _∙_}
 use Rattle.names.specs.Names.{pick}
-use native.Mathlib.Omega.{arith}
 use Rattle.forum.proofs.Turn.{leads-not-zero, leads-last, leads-next}
 use Rattle.forum.proofs.leads_at.Statement.{statement}
 use Rattle.forum.proofs.leads_at.Tie as tie

@@ -7,7 +7,7 @@ use Prim.Native.Nat.{ℕ, _+_}
 use lib.ListN.{length}
 use lib.Seq.{length-take-le}
 use Rattle.number.specs.Put.{put}
-use Rattle.forum.proofs.Whole.{trimmed-length}
+use Rattle.forum.proofs.Short.{trimmed-short}
 use Rattle.forum.proofs.Plain.{plain-part, plain-made}
 use Rattle.forum.proofs.put_plain.Statement.{statement}
 use Rattle.forum.proofs.put_plain.Tie as tie
@@ -19,7 +19,7 @@ slice-aggregate-put-stripped : tie.Need-slice-aggregate-put-stripped
 slice-aggregate-put-stripped c =
     let t = c .before .before .stays in
     let s = c .before .before .before .before .before .args .part .now in
-    sym (length-take-le (t .result) s (omega (arith, t .ensures, trimmed-length s)))
+    sym (length-take-le (t .result) s (omega (arith, t .ensures, trimmed-short s)))
 
 put-stripped-requires : tie.Need-put-stripped-requires
 put-stripped-requires c κs =
@@ -30,12 +30,12 @@ put-stripped-requires c κs =
 find-requires : tie.Need-find-requires
 find-requires c κs =
     let b = c .before .before .before .before .before in
-    omega (arith, b .stays .ensures, trimmed-length (b .before .before .before .args .part .now))
+    omega (arith, b .stays .ensures, trimmed-short (b .before .before .before .args .part .now))
 
 find-requires-2 : tie.Need-find-requires-2
 find-requires-2 c κs =
     let b = c .before .before .before .before .before .before in
-    omega (arith, b .stays .ensures, trimmed-length (b .before .before .before .args .part .now))
+    omega (arith, b .stays .ensures, trimmed-short (b .before .before .before .args .part .now))
 
 sub-t13 : tie.Need-sub-t13
 sub-t13 c = omega (arith, c .before .before .before .before .put-stripped .ensures .0)

@@ -1,11 +1,6 @@
 -- `forum::refuse` meets its contract. Assumes nothing.
 use borrow.Author.Needs.{needs}
-use mathlib.Core.Path.{_≡_, ap}
-use mathlib.Core.List.{List}
 use Rattle.tables.specs.Tables.{padded}
-use Rattle.forum.specs.declared.Changed.{Changed}
-use Rattle.forum.specs.declared.Mending.{Mending}
-use Rattle.forum.specs.declared.Verdict.the-variants.{Refused}
 use Rattle.forum.proofs.refuse.Statement.{statement}
 use Rattle.forum.proofs.refuse.Tie as tie
 

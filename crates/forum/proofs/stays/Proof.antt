@@ -1,12 +1,13 @@
 -- `forum::stays` meets its contract. The loop's invariant: all behind e goes. Assumes nothing.
 use native.Mathlib.Omega.{arith}
-use mathlib.Core.Path.{_≡_, refl, sym, ap, _∙_}
+use mathlib.Core.Path.{_≡_, sym, ap, _∙_}
 use mathlib.Core.Bool.{true}
 use Prim.Native.Nat.{ℕ, suc, _-_, _≤_}
 use borrow.Author.Tests.{not-true, not-false}
 use lib.ListN.{length, drop, drop-of-length-le}
 use Rattle.forum.specs.Mend.{allGo}
-use Rattle.forum.proofs.Turn.{trimmed-none, trimmed-at, all-go-on}
+use Rattle.forum.proofs.Turn.{trimmed-at, all-go-on}
+use Rattle.forum.proofs.Lines.{trimmed-none}
 use Rattle.forum.proofs.stays.Statement.{statement}
 use Rattle.forum.proofs.stays.Tie as tie
 

@@ -5,7 +5,7 @@ use Prim.Native.Nat.{ℕ, _≤_}
 use lib.ListN.{length, replicate}
 use Rattle.report.specs.Response.{lentOf, responseOf}
 use Rattle.tables.proofs.Packed.{padded-length}
-use Rattle.report.proofs.Back.{front-zeros}
+use Rattle.line.proofs.Front.{front-zeros}
 use Rattle.report.proofs.Answers.{response-long, lent-few}
 use borrow.Author.Needs.{needs}
 use Rattle.report.proofs.respond.Statement.{statement}

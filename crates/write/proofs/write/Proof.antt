@@ -13,12 +13,13 @@ use Rattle.program.specs.Program.{progOf}
 use Rattle.program.specs.Legal.{legalAsked}
 use Rattle.number.specs.Put.{put}
 use Rattle.number.proofs.Put.{put-then}
+use Rattle.line.proofs.Front.{put-front}
 use Rattle.write.specs.Bytes.{Held}
 use Rattle.write.specs.Writing.{headText, threadsText, textIn, wantsRight}
 use Rattle.write.proofs.Bound.{longestText}
 use Rattle.write.proofs.Types.{types-held}
 use Rattle.write.proofs.Held.{held-short}
-use Rattle.write.proofs.Pieces.{Written, text-pieces, put-front, known-written, writes-illegal, writes-wrong, writes-long, writes-text}
+use Rattle.write.proofs.Pieces.{Written, text-pieces, known-written, writes-illegal, writes-wrong, writes-long, writes-text}
 use Rattle.write.proofs.write.Statement.{statement}
 use Rattle.write.proofs.write.Tie as tie
 
