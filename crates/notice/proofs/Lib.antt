@@ -1,0 +1,3 @@
+-- Laws of what is printed.
+pub mod Pieces
+pub mod Bound
