@@ -4,4 +4,5 @@ pub mod Join
 pub mod Lines
 pub mod Fields
 pub mod Turn
+pub mod Quoted
 pub mod Unique
