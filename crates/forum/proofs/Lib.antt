@@ -3,3 +3,4 @@ pub mod Neat
 pub mod Lines
 pub mod Parts
 pub mod Again
+pub mod Examples
