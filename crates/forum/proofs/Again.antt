@@ -21,6 +21,7 @@ use Rattle.forum.specs.Neat.{AllNeat}
 use Rattle.forum.proofs.Neat.{unchanged}
 use Rattle.forum.proofs.Lines.{neat-plain}
 use Rattle.forum.proofs.Parts.{newLine, split-mended, lacks-mended}
+use Rattle.forum.proofs.Verdicts.{mends}
 
 neat-newLine : (t : Bool) → AllNeat (newLine t)
 unfolding trimmed stripped
@@ -62,26 +63,13 @@ again-mending l n h k =
     rw
     (le-ltb mostForum (length (mended l)) h, le-ltb n (length (mended (mended l))) (omega arith), s, none-changed l h)
 
--- a text that the door mends is told by its length and its changes
-pub told : (l : List ℕ) (n k : ℕ) → mending l n .verdict ≡ Mended k
-    → (length (mended l) ≡ k) × (mending l n ≡ answering (Mended k) (changesOf l))
-unfolding mending pick
-told l n k e = go (ltb mostForum (length l)) refl (ltb n (length (mended l))) refl e
-  where
-    go : (s : Bool) → ltb mostForum (length l) ≡ s → (t : Bool) → ltb n (length (mended l)) ≡ t
-        → pick s (answering (Refused 12) []) (pick t (answering (Refused 9) []) (answering (Mended (length (mended l))) (changesOf l))) .verdict ≡ Mended k
-        → (length (mended l) ≡ k) × (mending l n ≡ answering (Mended k) (changesOf l))
-    go true p t q e = let z : _≡_ {A = ℕ} 0 1 = cc in absurd (omega arith)
-    go false p true q e = let z : _≡_ {A = ℕ} 0 1 = cc in absurd (omega arith)
-    go false p false q e = let f : length (mended l) ≡ k = cc in (f, rw (p, q, f))
-
 -- the text at the front of the lent buffer o is the mended text
-handed : (l o t : List ℕ) (k : ℕ) → mending l (length o) .verdict ≡ Mended k
+pub handed : (l o t : List ℕ) (k : ℕ) → mending l (length o) .verdict ≡ Mended k
     → t ≡ take k (leaves (mending l (length o) .verdict) (mended l) o) → t ≡ mended l
 unfolding padded
 handed l o t k e f =
     f ∙ ap (λ (v : Verdict). take k (leaves v (mended l) o)) e
-    ∙ take-at (mended l) (replicate (length o - length (mended l)) 0) k (told l (length o) k e .0)
+    ∙ take-at (mended l) (replicate (length o - length (mended l)) 0) k (mends l (length o) k e .long)
 
 -- THEOREM: the text t that the door left in a buffer o, handed to it again with a buffer u
 pub again-door : (l o u t : List ℕ) (k : ℕ) → mending l (length o) .verdict ≡ Mended k
@@ -93,7 +81,7 @@ again-door l o u t k e f h r = (answers, ap (λ (x : Mending). leaves (x .verdic
     is = handed l o t k e f
 
     long : length (mended l) ≡ k
-    long = told l (length o) k e .0
+    long = mends l (length o) k e .long
 
     answers : mending t (length u) ≡ answering (Mended k) []
     answers = rw (is, ← long) (again-mending l (length u) (omega (arith, long)) (omega (arith, long)))

@@ -3,6 +3,7 @@ pub mod Neat
 pub mod Lines
 pub mod Short
 pub mod Parts
+pub mod Verdicts
 pub mod Again
 pub mod Count
 pub mod Exactly
@@ -11,3 +12,4 @@ pub mod Whole
 pub mod Turn
 pub mod Plain
 pub mod Unique
+pub mod Examples

@@ -20,7 +20,7 @@ use Rattle.forum.specs.Mend.{carriageReturn, space, zeroDigit, trimmed, 
 use Rattle.forum.specs.Mending.{mostLines, untouched, mending}
 use Rattle.forum.specs.Neat.{count}
 use Rattle.forum.proofs.Parts.{newLine, split-mended}
-use Rattle.forum.proofs.Again.{told}
+use Rattle.forum.proofs.Verdicts.{mends}
 use Rattle.forum.proofs.Exactly.{cr-exactly, blank-exactly, zero-exactly, kept}
 
 -- THE LINES OF A TEXT, by their places from 0
@@ -158,4 +158,4 @@ unfolding changesOf padded
 answered l n k i e h =
     let c = changesIn (lacks (left l)) (split lineFeed l) in
     let g : i < length c = omega (arith, changes-length (lacks (left l)) (split lineFeed l)) in
-    ap (λ (x : Mending). getD (x .changes) i untouched) (told l n k e .1) ∙ List·getD-append c (replicate (mostLines - length c) untouched) untouched i g
+    ap (λ (x : Mending). getD (x .changes) i untouched) (mends l n k e .answer) ∙ List·getD-append c (replicate (mostLines - length c) untouched) untouched i g

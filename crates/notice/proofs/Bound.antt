@@ -1,6 +1,7 @@
 -- How long what is printed can be: a text of 2,048 bytes has at most 2,049 changes, of 21 bytes each. Assumes nothing.
 use mathlib.Core.Path.{_≡_, refl, sym, _∙_, ap}
 use mathlib.Core.Bool.{Bool, true, false}
+use mathlib.Core.Logic.{⊎-elim}
 use mathlib.Core.List.{List, [], _∷_, _++_}
 use Prim.Native.Nat.{ℕ, suc, _+_, _*_, _≤_, _<_}
 use native.Mathlib.Omega.{arith}
@@ -15,6 +16,7 @@ use Rattle.line.proofs.Split.{split-length}
 use Rattle.say.specs.Said.{field, number, lineKey, numberKey, refusedText}
 use Rattle.say.proofs.Bound.{refused-long}
 use Rattle.forum.specs.declared.Changed.{Changed}
+use Rattle.forum.specs.declared.Verdict.{Verdict}
 use Rattle.forum.specs.declared.Verdict.the-variants.{Mended, Refused}
 use Rattle.forum.specs.Mend.{carriageReturn, space, trimmed, ending, plain, left, lacks, mended, has, changedIn, changesIn, changesOf}
 use Rattle.forum.specs.Mending.{mostForum, mostLines, mending}
@@ -22,6 +24,7 @@ use Rattle.forum.specs.Neat.{count}
 use Rattle.forum.proofs.Count.{count-same, count-other, has-count}
 use Rattle.forum.proofs.Short.{with-ending}
 use Rattle.forum.proofs.Whole.{mended-length}
+use Rattle.forum.proofs.Verdicts.{Refuses, mends, refuses}
 use Rattle.notice.specs.Told.{kindKey, crWord, blankWord, zeroWord, lfWord, changeText, lineText, changesText, told, mostTold}
 use Rattle.notice.proofs.Pieces.{change-none, change-some, line-length, told-refused, told-alone, told-changed}
 
@@ -112,8 +115,14 @@ change-short false k n h m = omega (arith, ap length (change-none false k n refl
 
 line-short : (n : ℕ) (c : Changed) → n < 10000 → length (lineText n c) ≤ 21 * kinds c
 line-short n c m =
-    omega (arith, line-length n c, change-short (c .cr) (field kindKey crWord) n (omega arith) m, change-short (c .blank) (field kindKey blankWord) n (omega arith) m,
-    change-short (c .zero) (field kindKey zeroWord) n (omega arith) m, change-short (c .lf) (field kindKey lfWord) n (omega arith) m)
+    omega (
+      arith,
+      line-length n c,
+      change-short (c .cr) (field kindKey crWord) n (omega arith) m,
+      change-short (c .blank) (field kindKey blankWord) n (omega arith) m,
+      change-short (c .zero) (field kindKey zeroWord) n (omega arith) m,
+      change-short (c .lf) (field kindKey lfWord) n (omega arith) m,
+    )
 
 changes-short : (n : ℕ) (cs : List Changed) → n + length cs ≤ 10000 → length (changesText n cs) ≤ 21 * allKinds cs
 unfolding changesText allKinds
@@ -134,16 +143,16 @@ lines-few l = omega (arith, changes-count (lacks (left l)) (split lineFeed l), s
 pub told-long : (l : List ℕ) → length l ≤ mostForum → length (mended l) + length (changesText 1 (changesOf l)) ≤ 45078
 told-long l h = omega (arith, mended-length l, few-changes l, changes-short 1 (changesOf l) (omega (arith, lines-few l)))
 
--- only a text that is not too long is mended
-mended-short : (l : List ℕ) (lent n : ℕ) → mending l lent .verdict ≡ Mended n → (length l ≤ mostForum) × (length (mended l) ≤ lent) × (n ≡ length (mended l))
-unfolding mending pick
-mended-short l lent n e = go (ltb mostForum (length l)) refl (ltb lent (length (mended l))) refl e
+-- a refusal
+pub refusal-long : (l : List ℕ) (lent k : ℕ) → Refuses l lent k → length (refusedText k 0) ≤ mostTold
+refusal-long l lent k h = omega (arith, refused-long k 0 (⊎-elim (λ e. omega (arith, e .0)) (λ e. omega (arith, e .0)) h) (omega arith))
+
+-- THEOREM: whatever is printed fits
+pub told-fits : (alone : Bool) (lent : ℕ) (l : List ℕ) → length (told alone lent l) ≤ mostTold
+told-fits alone lent l = go (mending l lent .verdict) refl alone
   where
-    go :
-        (s : Bool) → ltb mostForum (length l) ≡ s → (t : Bool) → ltb lent (length (mended l)) ≡ t
-        → pick s (answering (Refused 12) []) (pick t (answering (Refused 9) []) (answering (Mended (length (mended l))) (changesOf l))) .verdict ≡ Mended n
-        → (length l ≤ mostForum) × (length (mended l) ≤ lent) × (n ≡ length (mended l))
-    go true p t q e = let z : _≡_ {A = ℕ} 0 1 = cc in absurd (omega arith)
-    go false p true q e = let z : _≡_ {A = ℕ} 0 1 = cc in absurd (omega arith)
-    go false p false q e =
-        let k : n ≡ length (mended l) = cc in (ltb-false mostForum (length l) p, ltb-false lent (length (mended l)) q, k)
+    go : (v : Verdict) → mending l lent .verdict ≡ v → (b : Bool) → length (told b lent l) ≤ mostTold
+    go (Refused k) e b = omega (arith, ap length (told-refused lent l (Refused k) e b k refl), refusal-long l lent k (refuses l lent k e))
+    go (Mended n) e true = omega (arith, ap length (told-alone lent l (Mended n) e n refl), told-long l (mends l lent n e .short))
+    go (Mended n) e false =
+        omega (arith, ap length (told-changed lent l (Mended n) e n refl), length-append (mended l) (changesText 1 (changesOf l)), told-long l (mends l lent n e .short))

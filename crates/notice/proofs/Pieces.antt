@@ -15,7 +15,7 @@ use Rattle.forum.specs.declared.Verdict.{Verdict}
 use Rattle.forum.specs.declared.Verdict.the-variants.{Mended, Refused}
 use Rattle.forum.specs.Mend.{mended, changesOf}
 use Rattle.forum.specs.Mending.{mostLines, untouched, mending}
-use Rattle.notice.specs.Told.{kindKey, crWord, blankWord, zeroWord, lfWord, changeText, lineText, changesText, toldOf, told}
+use Rattle.notice.specs.Told.{kindKey, crWord, blankWord, zeroWord, lfWord, changeText, lineText, changesText, toldOf, told, printedOf}
 
 -- a change, or none
 module _ (b : Bool) (k : List ℕ) (n : ℕ) where
@@ -89,3 +89,16 @@ module _ (lent : ℕ) (l : List ℕ) (v : Verdict) (is : mending l lent .verdict
   pub told-changed : (n : ℕ) → v ≡ Mended n → told false lent l ≡ mended l ++ changesText 1 (changesOf l)
   unfolding told pick
   told-changed n e = rw (is, e)
+
+  -- and the answer
+  pub printed-refused : (alone : Bool) (k : ℕ) → v ≡ Refused k → printedOf alone lent l ≡ record { length = length (refusedText k 0); refused = true }
+  unfolding printedOf
+  printed-refused alone k e = let t = told-refused alone k e in rw (t, is, e)
+
+  pub printed-mended : (alone : Bool) (n : ℕ) (t : List ℕ) → v ≡ Mended n → told alone lent l ≡ t → printedOf alone lent l ≡ record { length = length t; refused = false }
+  unfolding printedOf
+  printed-mended alone n t e f = rw (f, is, e)
+
+pub printed-length : (alone : Bool) (lent : ℕ) (l : List ℕ) → printedOf alone lent l .length ≡ length (told alone lent l)
+unfolding printedOf
+printed-length alone lent l = refl

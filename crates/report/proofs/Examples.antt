@@ -10,6 +10,7 @@ use Rattle.number.specs.Decimal.{reading, numberOf, digits, decimal}
 use Rattle.line.specs.Split.{split, begins, equal}
 use Rattle.line.specs.Line.{within, numberLine}
 use Rattle.line.specs.Join.{join}
+use Rattle.line.proofs.Quoted.{bytes}
 use Rattle.px86.specs.Ask.{ask}
 use Rattle.px86.specs.Ask.Answer.{every}
 use Rattle.question.specs.Question.{Asked, holding, programOf, questionOf}
@@ -17,7 +18,6 @@ use Rattle.format.specs.Format.{step}
 use Rattle.text.specs.Read.{readParts, readText, askedOf}
 use Rattle.text.proofs.Examples.{accepted-document}
 use Rattle.say.specs.Said.{listed, memoryLines, allText, refusedText, said}
-use Rattle.say.proofs.Examples.{bytes}
 use Rattle.report.specs.Response.{mostLent, answerTo, responseTo, responseOf}
 
 -- what document 01's text asks

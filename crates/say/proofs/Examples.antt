@@ -1,20 +1,14 @@
 -- What is printed for each kind of answer: computed. Assumes nothing.
-use Prim.Native.Nat.{ℕ}
-use Prim.Native.Char.{code}
-use Prim.Native.String.{String, [] as nothing, _∷_ as _before_}
+use Prim.Native.String.{String}
 use mathlib.Core.Path.{_≡_, refl}
 use mathlib.Core.List.{List, [], _∷_, map}
 use Rattle.number.specs.Decimal.{digits, decimal}
 use Rattle.line.specs.Join.{join}
+use Rattle.line.proofs.Quoted.{bytes}
 use Rattle.px86.specs.declared.Refusal.the-variants.{Illegal, WrongWant, Over, TooLong, Barred, NoRoom}
 use Rattle.px86.specs.Ask.{Answer}
 use Rattle.px86.specs.Ask.Answer.{every, reached, never, none}
 use Rattle.say.specs.Said.{listed, memoryLines, allText, reachedText, neverText, overText, refusedText, refusalText, said}
-
--- a quoted text as bytes, of which each character is one
-abbrev pub bytes : String → List ℕ
-bytes nothing = []
-bytes (c before s) = code c ∷ bytes s
 
 pub record Row : Type 0 where
   pub answer : Answer

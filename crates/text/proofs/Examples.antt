@@ -1,7 +1,6 @@
 -- Texts that are refused, each with its number and its line, and texts that are accepted: computed. Assumes nothing.
 use Prim.Native.Nat.{ℕ}
-use Prim.Native.Char.{code}
-use Prim.Native.String.{String, [] as none, _∷_ as _before_, _++_}
+use Prim.Native.String.{String, _++_}
 use mathlib.Core.Path.{_≡_, refl}
 use mathlib.Core.List.{List, [], _∷_, map}
 use Rattle.names.specs.Names.{pick}
@@ -13,17 +12,13 @@ use Rattle.number.specs.Decimal.{reading, numberOf}
 use Rattle.line.specs.Split.{split, begins, equal}
 use Rattle.line.specs.Line.{within, numberLine}
 use Rattle.line.specs.Fields.{fieldsFrom, fieldsOf}
+use Rattle.line.proofs.Quoted.{bytes}
 use Rattle.words.specs.Words.{named, kindOf}
 use Rattle.words.specs.Op.{opParts, opLine}
 use Rattle.words.specs.Want.{wantRest, wantLine}
 use Rattle.question.specs.Past.{leaps, pastIn, past}
 use Rattle.format.specs.Format.{step}
 use Rattle.text.specs.Read.{readParts, readText, Outcome, refused, accepted, askedOf}
-
--- a quoted text as bytes, of which each character is one
-abbrev pub bytes : String → List ℕ
-bytes none = []
-bytes (c before s) = code c ∷ bytes s
 
 -- a text, and the number and the line with which it is refused
 record Row : Type 0 where

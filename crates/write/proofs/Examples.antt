@@ -14,10 +14,11 @@ use Rattle.program.specs.Program.Wanted.{all, one}
 use Rattle.program.specs.Legal.{legalOp, legalOps, legalThreads, legalProg, allBelow, legal, legalAsked}
 use Rattle.number.specs.Decimal.{digits, decimal}
 use Rattle.line.specs.Join.{join}
+use Rattle.line.proofs.Quoted.{bytes}
 use Rattle.words.specs.Op.{opText}
 use Rattle.words.specs.Want.{wantText}
 use Rattle.question.specs.Question.{holding, asking}
-use Rattle.text.proofs.Examples.{bytes, document}
+use Rattle.text.proofs.Examples.{document}
 use Rattle.px86.specs.declared.Refusal.{Refusal}
 use Rattle.px86.specs.declared.Refusal.the-variants.{Illegal, WrongWant, TooLong}
 use Rattle.write.specs.declared.Wrote.{Wrote}
