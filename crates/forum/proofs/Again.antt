@@ -5,7 +5,6 @@ use mathlib.Core.List.{List, [], _∷_, _++_, map}
 use Prim.Native.Nat.{ℕ, _+_, _-_, _≤_}
 use native.Mathlib.Omega.{arith}
 use borrow.Author.Tests.{le-ltb}
-use lib.Dec.{ltb}
 use lib.ListN.{length, take, replicate, length-replicate, replicate-append-replicate}
 use lib.Seq.{take-at}
 use Rattle.names.specs.Names.{pick}
@@ -13,7 +12,7 @@ use Rattle.tables.specs.Tables.{padded}
 use Rattle.line.specs.Split.{lineFeed, split}
 use Rattle.line.proofs.Split.{split-length}
 use Rattle.forum.specs.declared.Verdict.{Verdict}
-use Rattle.forum.specs.declared.Verdict.the-variants.{Mended, Refused}
+use Rattle.forum.specs.declared.Verdict.the-variants.{Mended}
 use Rattle.forum.specs.declared.Mending.{Mending}
 use Rattle.forum.specs.Mend.{trimmed, stripped, plain, left, lacks, mended, changesOf}
 use Rattle.forum.specs.Mending.{mostForum, mostLines, untouched, answering, mending, leaves}

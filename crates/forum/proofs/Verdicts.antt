@@ -1,5 +1,5 @@
 -- What follows from the door's verdict. Assumes nothing.
-use mathlib.Core.Path.{_≡_, refl, sym}
+use mathlib.Core.Path.{_≡_, refl}
 use mathlib.Core.Bool.{Bool, true, false}
 use mathlib.Core.Logic.{_⊎_, inl, inr}
 use mathlib.Core.List.{List, []}
@@ -9,7 +9,6 @@ use borrow.Author.Tests.{ltb-true, ltb-false}
 use lib.Dec.{ltb}
 use lib.ListN.{length}
 use Rattle.names.specs.Names.{pick}
-use Rattle.forum.specs.declared.Verdict.{Verdict}
 use Rattle.forum.specs.declared.Verdict.the-variants.{Mended, Refused}
 use Rattle.forum.specs.declared.Mending.{Mending}
 use Rattle.forum.specs.Mend.{mended, changesOf}

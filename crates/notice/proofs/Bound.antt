@@ -5,21 +5,21 @@ use mathlib.Core.Logic.{⊎-elim}
 use mathlib.Core.List.{List, [], _∷_, _++_}
 use Prim.Native.Nat.{ℕ, suc, _+_, _*_, _≤_, _<_}
 use native.Mathlib.Omega.{arith}
-use borrow.Author.Tests.{ltb-true, ltb-false, eqb-true}
+use borrow.Author.Tests.{ltb-true, eqb-true}
 use lib.Dec.{ltb, eqb}
 use lib.ListN.{length, length-append}
 use Rattle.names.specs.Names.{pick}
 use Rattle.number.specs.Decimal.{decimal}
-use Rattle.number.proofs.Lengths.{decimal-short, byte-short}
+use Rattle.number.proofs.Lengths.{decimal-short}
 use Rattle.line.specs.Split.{lineFeed, onFirst, split}
 use Rattle.line.proofs.Split.{split-length}
-use Rattle.say.specs.Said.{field, number, lineKey, numberKey, refusedText}
+use Rattle.say.specs.Said.{field, number, lineKey, refusedText}
 use Rattle.say.proofs.Bound.{refused-long}
 use Rattle.forum.specs.declared.Changed.{Changed}
 use Rattle.forum.specs.declared.Verdict.{Verdict}
 use Rattle.forum.specs.declared.Verdict.the-variants.{Mended, Refused}
 use Rattle.forum.specs.Mend.{carriageReturn, space, trimmed, ending, plain, left, lacks, mended, has, changedIn, changesIn, changesOf}
-use Rattle.forum.specs.Mending.{mostForum, mostLines, mending}
+use Rattle.forum.specs.Mending.{mostForum, mending}
 use Rattle.forum.specs.Neat.{count}
 use Rattle.forum.proofs.Count.{count-same, count-other, has-count}
 use Rattle.forum.proofs.Short.{with-ending}

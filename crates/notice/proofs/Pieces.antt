@@ -1,5 +1,5 @@
 -- What is printed of the changes, piece by piece, as the writers put it. Assumes nothing.
-use mathlib.Core.Path.{_≡_, refl, sym, _∙_, ap}
+use mathlib.Core.Path.{_≡_, refl, ap}
 use mathlib.Core.Bool.{Bool, true, false}
 use mathlib.Core.List.{List, [], _∷_, _++_, append-nil}
 use Prim.Native.Nat.{ℕ, zero, suc, _+_, _-_, _≤_, _<_}
@@ -14,8 +14,8 @@ use Rattle.forum.specs.declared.Changed.{Changed}
 use Rattle.forum.specs.declared.Verdict.{Verdict}
 use Rattle.forum.specs.declared.Verdict.the-variants.{Mended, Refused}
 use Rattle.forum.specs.Mend.{mended, changesOf}
-use Rattle.forum.specs.Mending.{mostLines, untouched, mending}
-use Rattle.notice.specs.Told.{kindKey, crWord, blankWord, zeroWord, lfWord, changeText, lineText, changesText, toldOf, told, printedOf}
+use Rattle.forum.specs.Mending.{untouched, mending}
+use Rattle.notice.specs.Told.{kindKey, crWord, blankWord, zeroWord, lfWord, changeText, lineText, changesText, told, printedOf}
 
 -- a change, or none
 module _ (b : Bool) (k : List ℕ) (n : ℕ) where

@@ -7,7 +7,7 @@ use lib.ListN.{length}
 use Rattle.tables.proofs.Packed.{padded-length}
 use Rattle.line.proofs.Front.{front-zeros}
 use Rattle.notice.specs.declared.Printed.{Printed}
-use Rattle.notice.specs.Told.{told, mostTold, printedOf}
+use Rattle.notice.specs.Told.{told, mostTold}
 use Rattle.notice.proofs.Pieces.{printed-length}
 use Rattle.notice.proofs.Bound.{told-fits}
 use Rattle.notice.proofs.notice.Statement.{statement}

@@ -2,10 +2,9 @@
 use borrow.Author.Needs.{needs}
 use borrow.Author.Tests.{not-true, not-false}
 use native.Mathlib.Omega.{arith}
-use mathlib.Core.Path.{_≡_, ap, sym, _∙_}
+use mathlib.Core.Path.{_≡_, ap, sym}
 use mathlib.Core.List.{_++_}
 use lib.ListN.{length, length-append}
-use Rattle.number.specs.Put.{put}
 use Rattle.number.proofs.Put.{put-nil}
 use Rattle.say.specs.Said.{number, lineKey}
 use Rattle.say.proofs.Pieces.{put-two}
