@@ -5,6 +5,7 @@ use follow::Outcome;
 use follow::follow;
 use libc::STDIN_FILENO;
 use libc::STDOUT_FILENO;
+use notice::notice;
 use program::Question;
 use report::respond;
 use text::Verdict;
@@ -80,6 +81,19 @@ fn answer(text: &[u8], room: &mut [u8], n: usize) {
     }
 }
 
+// What mend prints for the text, whole or alone, where the first n bytes of the room are lent, which are there; then those bytes, each of which
+// was 170.
+fn mend_text(text: &[u8], alone: bool, room: &mut [u8], n: usize) {
+    if n <= room.len() {
+        let mut out = [0u8; 49152];
+        let r = notice(text, alone, &mut room[..n], &mut out);
+        let k = r.length;
+        put_number(capped(k, 49152) + capped(n, 4096));
+        put(&out[..k]);
+        put_first(room, n);
+    }
+}
+
 // The question is written into the first n bytes of the buffer, which are there.
 fn write_first(q: Question, buffer: &mut [u8], n: usize) -> Wrote {
     if n <= buffer.len() {
@@ -144,6 +158,11 @@ fn respond_to(kind: u8, lent: usize, text: &[u8], n: usize, codes: &[u8], m: usi
     if kind == 113 {
         let mut room = [0u8; 4096];
         answer(&text[..n], &mut room, lent);
+        return;
+    }
+    if kind == 109 {
+        let mut room = [170u8; 4096];
+        mend_text(&text[..n], 0 < m, &mut room, lent);
         return;
     }
     let parsed = read(&text[..n]);

@@ -23,8 +23,20 @@ answer-requires c κs = search needs
 returns-3 : tie.Need-returns-3
 returns-3 c = search needs
 
+slice-aggregate-mend-text : tie.Need-slice-aggregate-mend-text
+slice-aggregate-mend-text c = sym (length-take-le _ _ (c .before .before .before .before .if1 .left))
+
+slice-aggregate-mend-text-2 : tie.Need-slice-aggregate-mend-text-2
+slice-aggregate-mend-text-2 c = search needs
+
+mend-text-requires : tie.Need-mend-text-requires
+mend-text-requires c κs = search needs
+
+returns-4 : tie.Need-returns-4
+returns-4 c = search needs
+
 slice-aggregate-read : tie.Need-slice-aggregate-read
-slice-aggregate-read c = sym (length-take-le _ _ (c .before .before .before .if1 .left))
+slice-aggregate-read c = sym (length-take-le _ _ (c .before .before .before .before .if1 .left))
 
 read-requires : tie.Need-read-requires
 read-requires c κs = search needs
@@ -42,19 +54,19 @@ write-again-requires : tie.Need-write-again-requires
 write-again-requires c κs = search needs
 
 slice-aggregate-follow-codes : tie.Need-slice-aggregate-follow-codes
-slice-aggregate-follow-codes c = sym (length-take-le _ _ (c .before .before .before .before .before .before .before .before .if2 .left))
+slice-aggregate-follow-codes c = sym (length-take-le _ _ (c .before .before .before .before .before .before .before .before .before .if2 .left))
 
 follow-codes-requires : tie.Need-follow-codes-requires
 follow-codes-requires c κs = search needs
-
-returns-4 : tie.Need-returns-4
-returns-4 c = search needs
 
 returns-5 : tie.Need-returns-5
 returns-5 c = search needs
 
 returns-6 : tie.Need-returns-6
 returns-6 c = search needs
+
+returns-7 : tie.Need-returns-7
+returns-7 c = search needs
 
 pub respond-to-spec : {M : Type 1} → statement M
 respond-to-spec =
@@ -66,6 +78,10 @@ respond-to-spec =
     slice-aggregate-answer-2
     answer-requires
     returns-3
+    slice-aggregate-mend-text
+    slice-aggregate-mend-text-2
+    mend-text-requires
+    returns-4
     slice-aggregate-read
     read-requires
     enum-known-verdict
@@ -74,6 +90,6 @@ respond-to-spec =
     write-again-requires
     slice-aggregate-follow-codes
     follow-codes-requires
-    returns-4
     returns-5
-    returns-6)
+    returns-6
+    returns-7)
