@@ -1,7 +1,7 @@
 -- What follows from the door's verdict. Assumes nothing.
 use mathlib.Core.Path.{_≡_, refl}
 use mathlib.Core.Bool.{Bool, true, false}
-use mathlib.Core.Logic.{_⊎_, inl, inr}
+use mathlib.Core.Logic.{_⊎_, inl, inr, ⊎-elim}
 use mathlib.Core.List.{List, []}
 use Prim.Native.Nat.{ℕ, _≤_, _<_}
 use native.Mathlib.Omega.{arith}
@@ -12,7 +12,8 @@ use Rattle.names.specs.Names.{pick}
 use Rattle.forum.specs.declared.Verdict.the-variants.{Mended, Refused}
 use Rattle.forum.specs.declared.Mending.{Mending}
 use Rattle.forum.specs.Mend.{mended, changesOf}
-use Rattle.forum.specs.Mending.{mostForum, answering, mending}
+use Rattle.forum.specs.Mending.{mostForum, mostLines, answering, mending}
+use Rattle.forum.proofs.Whole.{mended-length}
 
 -- a text that is mended: what is known of it, and its changes
 pub record Mends (l : List ℕ) (n k : ℕ) : Type 0 where
@@ -50,3 +51,7 @@ module _ (l : List ℕ) (n k : ℕ) where
       go true p t q e = let f : k ≡ 12 = cc in inl (f, ltb-true mostForum (length l) p)
       go false p true q e = let f : k ≡ 9 = cc in inr (f, ltb-false mostForum (length l) p, ltb-true n (length (mended l)) q)
       go false p false q e = let z : _≡_ {A = ℕ} 0 1 = cc in absurd (omega arith)
+
+-- THEOREM: where 2,049 bytes are lent, as many as the longest mended text has, no text is refused with 9
+pub roomy : (l : List ℕ) (n k : ℕ) → mostLines ≤ n → mending l n .verdict ≡ Refused k → k ≡ 12
+roomy l n k h e = ⊎-elim (λ r. r .0) (λ r. absurd (omega (arith, mended-length l, r .1, r .2))) (refuses l n k e)

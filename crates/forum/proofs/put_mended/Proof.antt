@@ -17,7 +17,7 @@ use Rattle.line.proofs.Split.{split-at-end}
 use Rattle.forum.specs.declared.Changed.{Changed}
 use Rattle.forum.specs.declared.Sewn.{Sewn}
 use Rattle.forum.specs.Mend.{mended, changesOf}
-use Rattle.forum.specs.Sewn.{sewnLine, changedLine, sewn, changedLines}
+use Rattle.forum.specs.Sewn.{sewnLine, changedLine, sewn, changedLines, sewnAt}
 use Rattle.forum.specs.Mending.{mostForum, mostLines, untouched}
 use Rattle.forum.proofs.Whole.{mended-sewn, changes-sewn, turn-more, turn-last, turn-room}
 use Rattle.forum.proofs.put_mended.Statement.{statement}
@@ -70,7 +70,7 @@ gone-on :
 gone-on d rest e =
     let l = turnOf d in
     let q = sewnLine (lastOf d) (lineOf d) in
-    let k = ap (λ (x : Sewn). x .end) (d .put-line .ensures .0) in
+    let k = ap (λ (x : Sewn). x .end) {y = sewnAt (l .loop .e) q (changedLine (lastOf d) (lineOf d))} (d .put-line .ensures .0) in
     let m = length-append q rest in
     let n = ap length e in (
       omega (arith, k, m, n, l .loop .inv .5),
@@ -88,12 +88,13 @@ marked d rest e =
     let l = turnOf d in
     let i = l .loop .inv .7 in
     let x = d .put-line .result .changed in
-    let k = ap (λ (y : Sewn). y .changed) (d .put-line .ensures .0) in (
+    let w = changedLine (lastOf d) (lineOf d) in
+    let k : x ≡ w = ap (λ (y : Sewn). y .changed) {y = sewnAt (l .loop .e) (sewnLine (lastOf d) (lineOf d)) w} (d .put-line .ensures .0) in (
       i .0 ++ x ∷ [],
       length-append (i .0) (x ∷ []) ∙ omega (arith, i .1),
       ap (λ (y : List Changed). set y (l .loop .n) x) (i .2)
           ∙ (ap (λ (n : ℕ). set (padded mostLines untouched (i .0)) n x) (sym (i .1)) ∙ padded-push mostLines untouched (i .0) x (omega (arith, i .1, l .loop .inv .1, l .loop .inv .2))),
-      append-assoc (i .0) (x ∷ []) rest ∙ (ap (λ (c : Changed). i .0 ++ c ∷ rest) k ∙ (ap (λ (r : List Changed). i .0 ++ r) (sym e) ∙ i .3)),
+      append-assoc (i .0) (x ∷ []) rest ∙ (ap (λ (c : Changed). i .0 ++ c ∷ rest) {y = w} k ∙ (ap (λ (r : List Changed). i .0 ++ r) (sym e) ∙ i .3)),
     )
 
 find-requires : tie.Need-find-requires Inv-loop μ-loop
