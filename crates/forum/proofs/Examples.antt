@@ -3,6 +3,7 @@ use Prim.Native.Nat.{ℕ}
 use Prim.Native.String.{String}
 use mathlib.Core.Path.{_≡_, refl}
 use mathlib.Core.Bool.{Bool, true, false}
+use mathlib.Core.Logic.{inl, inr}
 use mathlib.Core.List.{List, [], _∷_, map}
 use Rattle.names.specs.Names.{pick}
 use Rattle.line.specs.Split.{split}
@@ -11,6 +12,7 @@ use Rattle.line.proofs.Quoted.{bytes}
 use Rattle.forum.specs.declared.Changed.{Changed}
 use Rattle.forum.specs.Mend.{allGo, trimmed, stripped, plain, left, lacks, mended, has, changedIn, changesIn, changesOf}
 use Rattle.forum.specs.Mending.{untouched}
+use Rattle.forum.specs.Posted.{Zeroed, Posted}
 
 -- a text, what it becomes, and what changed on each of its lines
 record Row : Type 0 where
@@ -110,3 +112,11 @@ zeros-right = (refl, refl)
 pub feeds-right : Right feeds
 unfolding pick split join allGo trimmed stripped plain left lacks mended has changedIn changesIn changesOf
 feeds-right = (refl, refl)
+
+-- a post: two zeros on the first line, one on the second, blanks and carriage returns behind both, and no last line feed
+pub posted : Posted (bytes "a7\nb=0\n") (bytes "a007 \nb=00\r \r")
+unfolding pick split allGo lacks
+posted =
+    let first : Zeroed false (bytes "a7") (bytes "a007") = inl (refl, inr (refl, refl, refl, inr (refl, refl, refl, inl (refl, refl)))) in
+    let second : Zeroed false (bytes "b=0") (bytes "b=00") = inl (refl, inl (refl, inr (refl, refl, refl, inl (refl, refl)))) in
+    inr (bytes "a7\nb=0", (refl, refl), ((bytes "a007", bytes " ", first, refl, refl), ((bytes "b=00", bytes "\r \r", second, refl, refl), tt)))

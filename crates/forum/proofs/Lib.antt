@@ -3,6 +3,7 @@ pub mod Neat
 pub mod Lines
 pub mod Short
 pub mod Parts
+pub mod Undone
 pub mod Verdicts
 pub mod Again
 pub mod Count
