@@ -46,11 +46,11 @@ abbrev pub digitNext : List ℕ → Bool
 digitNext [] = false
 digitNext (c ∷ l) = isDigit c
 
--- c leads a run of digits and goes: it is a 0, no digit of its run stands before it, and one comes behind it ("one digit stays")
+-- c leads a run of digits and goes: it is a 0, no digit of its run has stayed before it, and one comes behind it ("one digit stays")
 abbrev pub leads : Bool → ℕ → List ℕ → Bool
 leads begun c l = pick begun false (pick (eqb c zeroDigit) (digitNext l) false)
 
--- what is left of a line; `begun` says that a digit stands before it
+-- what is left of a line; `begun` says that a digit has stayed just before it
 unfoldable pub stripped : Bool → List ℕ → List ℕ
 stripped begun [] = []
 stripped begun (c ∷ l) = pick (leads begun c l) (stripped false l) (c ∷ stripped (isDigit c) l)

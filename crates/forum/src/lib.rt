@@ -33,15 +33,15 @@ pub struct Mending {
 }
 
 // A mended line that was written: the place behind it, and what was changed.
-pub struct Sewn {
-    pub end: usize,
-    pub changed: Changed,
+struct Sewn {
+    end: usize,
+    changed: Changed,
 }
 
 // A whole text mended: its length, and the changes of each line.
-pub struct Made {
-    pub length: usize,
-    pub changes: [Changed; 2049],
+struct Made {
+    length: usize,
+    changes: [Changed; 2049],
 }
 
 // No changes.
