@@ -92,7 +92,7 @@ fn smaller_lents(request: &Request) -> Vec<u16> {
         Kind::Write if request.lent > 0 => vec![0, request.lent / 2, request.lent - 1],
         Kind::Mend => {
             let needed = needed(&request.text);
-            let mut lents = vec![0, needed, needed + 1, request.lent.saturating_sub(1)];
+            let mut lents = vec![0, 1, needed, needed + 1, request.lent / 2, request.lent.saturating_sub(1)];
             lents.retain(|&lent| lent < request.lent);
             lents
         }

@@ -1,11 +1,11 @@
 //! `gallery DIR [-- BENCH.. [-- MEND..]]`: each question of the gallery and each text from the forum beside its expected output, by the simulator
 //! and by the commands of `bench` and `mend`.
 
-use harness::mend::{mend, print_mending, Mended, MEND_LENDS};
+use harness::mend::{mend, print_mending, Mended, MAX_FORUM, MEND_LENDS};
 use harness::print::{print, BENCH_LENDS};
 use std::io::{self, Write};
 use std::path::{Path, PathBuf};
-use std::process::{Command, ExitCode, Stdio};
+use std::process::{Command, ExitCode, Output, Stdio};
 
 fn main() -> ExitCode {
     let words: Vec<String> = std::env::args().skip(1).collect();
@@ -45,6 +45,9 @@ fn compare(directory: &Path, bench: &[String], mend: &[String]) -> io::Result<(u
         let agrees = if from_forum { post_agrees(path, bench, mend)? } else { question_agrees(path, bench)? };
         differ += usize::from(!agrees);
     }
+    if !mend.is_empty() {
+        differ += usize::from(!refusal_agrees(mend)?);
+    }
     println!("{} texts, {differ} differ", texts.len());
     Ok((texts.len(), differ))
 }
@@ -78,7 +81,7 @@ fn post_agrees(path: &Path, bench: &[String], mender: &[String]) -> io::Result<b
     }
     let mut mended = text.clone();
     if !mender.is_empty() {
-        mended = output_of(&[mender, &["text".to_string()]].concat(), &post)?;
+        mended = output_of(&with_text(mender), &post)?;
         agrees &= same(path, "mend's text alone", &text, &mended);
     }
     if !bench.is_empty() {
@@ -86,6 +89,21 @@ fn post_agrees(path: &Path, bench: &[String], mender: &[String]) -> io::Result<b
         agrees &= same(path, "bench's answer to the mended text", answer.as_bytes(), &output_of(bench, &mended)?);
     }
     Ok(agrees)
+}
+
+/// A text too long to be mended: mend says so, but on standard error where the text is wanted alone, and then nothing on standard output.
+fn refusal_agrees(mender: &[String]) -> io::Result<bool> {
+    let (path, post) = (Path::new("a text too long"), [b' '; MAX_FORUM + 1]);
+    let refusal = print_mending(&mend(&post, &mut []), false);
+    let alone = run(&with_text(mender), &post)?;
+    Ok(same(path, "mend", &refusal, &output_of(mender, &post)?)
+        & same(path, "mend's text alone", b"", &alone.stdout)
+        & same(path, "mend's standard error", &refusal, &alone.stderr))
+}
+
+/// The command with the argument that lets mend print the text alone.
+fn with_text(mender: &[String]) -> Vec<String> {
+    [mender, &["text".to_string()]].concat()
 }
 
 /// Whether an output is the expected one; both are shown if not.
@@ -99,13 +117,20 @@ fn same(path: &Path, whose: &str, expected: &[u8], output: &[u8]) -> bool {
     false
 }
 
-/// What the command prints for a text on its standard input.
+/// What the command prints for a text on its standard input. What it says on standard error is passed on.
 fn output_of(command: &[String], text: &[u8]) -> io::Result<Vec<u8>> {
-    let mut child =
-        Command::new(&command[0]).args(&command[1..]).stdin(Stdio::piped()).stdout(Stdio::piped()).spawn()?;
+    let output = run(command, text)?;
+    io::stderr().write_all(&output.stderr)?;
+    Ok(output.stdout)
+}
+
+fn run(command: &[String], text: &[u8]) -> io::Result<Output> {
+    let mut piped = Command::new(&command[0]);
+    piped.args(&command[1..]).stdin(Stdio::piped()).stdout(Stdio::piped()).stderr(Stdio::piped());
+    let mut child = piped.spawn()?;
     if let Some(mut input) = child.stdin.take() {
         // A command that does not read its input shows by its output.
         let _ = input.write_all(text);
     }
-    Ok(child.wait_with_output()?.stdout)
+    child.wait_with_output()
 }

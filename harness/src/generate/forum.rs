@@ -182,7 +182,7 @@ fn about_limit(random: &mut Random) -> Vec<u8> {
     };
     // With a last byte that stays the mended text may have one more than the text; and the last line may be the 2,048th.
     if random.once_in(2) {
-        text[length - 1] = *random.pick(b"xx0,\n\r ");
+        text[length - 1] = *random.pick(b"xxx0,\n\r ");
     }
     text
 }
