@@ -1,6 +1,7 @@
 //! The comparison: sends every request to the other side and holds its response beside the simulator's.
 
 use crate::generate::{self, Family};
+use crate::own::held;
 use crate::protocol::{Kind, Request, Server};
 use crate::reply::{reply, sort_of};
 use crate::shrink::shrink;
@@ -61,9 +62,12 @@ fn compare_batch(
     }
     for ((request, response), seed) in requests.iter().zip(&responses).zip(seeds) {
         let expected = reply(request);
-        let sort = format!("{} {}", char::from(request.kind.letter()), sort_of(request.kind, &expected));
+        let sort = format!("{} {}", char::from(request.kind.letter()), sort_of(request, &expected));
         *tally.sorts.entry((family, sort)).or_default() += 1;
         tally.compared += 1;
+        if request.kind == Kind::Mend {
+            hold(family, *seed, request, tally, out)?;
+        }
         if response.as_ref() != Some(&expected) {
             tally.differ += 1;
             if tally.differ <= SHOWN {
@@ -71,6 +75,23 @@ fn compare_batch(
                 writeln!(out, "DIFFERENCE, {}, seed {seed}, made small:", family.name())?;
                 show(server, &small, out)?;
             }
+        }
+    }
+    Ok(())
+}
+
+/// Holds the simulator to what mending must keep to by its own words. Where it does not, that counts as a difference.
+fn hold(family: Family, seed: u64, request: &Request, tally: &mut Tally, out: &mut impl Write) -> io::Result<()> {
+    let original = generate::original(family, seed);
+    for (what, so) in held(&request.text, original.as_deref()) {
+        if so {
+            *tally.sorts.entry((family, format!("simulator: {what}"))).or_default() += 1;
+        } else {
+            tally.differ += 1;
+            if tally.differ > SHOWN {
+                continue;
+            }
+            writeln!(out, "THE SIMULATOR ITSELF, {}, seed {seed}, not so: {what}", family.name())?;
         }
     }
     Ok(())
@@ -93,22 +114,26 @@ fn show(server: &Server, request: &Request, out: &mut impl Write) -> io::Result<
     for line in request.text.split_inclusive(|&byte| byte == b'\n') {
         writeln!(out, "  | {}", line.escape_ascii())?;
     }
-    if request.kind == Kind::Follow {
+    if matches!(request.kind, Kind::Follow | Kind::Mend) {
         writeln!(out, "codes={}", crate::text::with_commas(&request.codes))?;
     }
-    writeln!(out, "simulator: {}", shown(request.kind, &reply(request)))?;
+    writeln!(out, "simulator: {}", shown(request, &reply(request)))?;
     match one_response(server, request) {
-        Some(response) => writeln!(out, "other:     {}", shown(request.kind, &response)),
+        Some(response) => writeln!(out, "other:     {}", shown(request, &response)),
         None => writeln!(out, "other:     ended without a response"),
     }
 }
 
-/// A response on one line: text as it is, bytes behind its letter as numbers.
-fn shown(kind: Kind, response: &[u8]) -> String {
-    match response.split_first() {
-        Some((letter, bytes)) if kind != Kind::Query => {
-            let numbers: Vec<String> = bytes.iter().map(u8::to_string).collect();
-            format!("{} {}", letter.escape_ascii(), numbers.join(" "))
+/// A response on one line: text as it is, bytes behind a letter or in a lent buffer as numbers.
+fn shown(request: &Request, response: &[u8]) -> String {
+    let numbers = |bytes: &[u8]| bytes.iter().map(u8::to_string).collect::<Vec<_>>().join(" ");
+    match (request.kind, response.split_first()) {
+        (Kind::Mend, _) => {
+            let (printed, lent) = response.split_at(response.len().saturating_sub(usize::from(request.lent)));
+            format!("{} | lent: {}", printed.escape_ascii(), numbers(lent))
+        }
+        (Kind::Write | Kind::Follow, Some((letter, bytes))) => {
+            format!("{} {}", letter.escape_ascii(), numbers(bytes))
         }
         _ => response.escape_ascii().to_string(),
     }

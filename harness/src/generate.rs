@@ -2,6 +2,7 @@
 
 mod codes;
 mod damage;
+mod forum;
 mod programs;
 mod questions;
 
@@ -23,10 +24,12 @@ pub enum Family {
     Codes,
     /// Legal questions, written into buffers of about their length.
     Written,
+    /// Texts from the forum, mended.
+    Forum,
 }
 
 impl Family {
-    pub const ALL: [Family; 4] = [Family::Questions, Family::Damaged, Family::Codes, Family::Written];
+    pub const ALL: [Family; 5] = [Family::Questions, Family::Damaged, Family::Codes, Family::Written, Family::Forum];
 
     pub fn name(self) -> &'static str {
         match self {
@@ -34,13 +37,14 @@ impl Family {
             Family::Damaged => "damaged texts",
             Family::Codes => "lists of codes",
             Family::Written => "written texts",
+            Family::Forum => "texts from the forum",
         }
     }
 
     /// How many requests a whole comparison makes.
     pub fn count(self) -> u64 {
         match self {
-            Family::Questions | Family::Damaged | Family::Codes => 24_000,
+            Family::Questions | Family::Damaged | Family::Codes | Family::Forum => 24_000,
             Family::Written => 6_000,
         }
     }
@@ -59,5 +63,14 @@ pub fn request(family: Family, seed: u64) -> Request {
         Family::Damaged => damage::damaged(random),
         Family::Codes => codes::followed(random),
         Family::Written => questions::written(random),
+        Family::Forum => forum::mended(random).0,
+    }
+}
+
+/// The text that mending must make of a request's, where the generator knows it: that which it damaged.
+pub fn original(family: Family, seed: u64) -> Option<Vec<u8>> {
+    match family {
+        Family::Forum => forum::mended(&mut Random::new(seed)).1,
+        _ => None,
     }
 }

@@ -1,7 +1,7 @@
-//! A second source for the crash bench, written from document 01 alone.
+//! A second source for the crash bench, written from document 01; what mends a text, from the words of request 1.
 //!
-//! The simulator: `program`, `text`, `machine`, `ask`, `follow`, `print`. Two faster ways to count: `fast` and `hand`.
-//! The comparison with the proved side: `protocol`, `reply`, `generate`, `compare`, `shrink`.
+//! The simulator: `program`, `text`, `machine`, `ask`, `follow`, `print`; `mend`. Two faster ways to count: `fast` and `hand`.
+//! The comparison with the proved side: `protocol`, `reply`, `generate`, `compare`, `own`, `shrink`.
 
 pub mod ask;
 pub mod compare;
@@ -10,6 +10,8 @@ pub mod follow;
 pub mod generate;
 pub mod hand;
 pub mod machine;
+pub mod mend;
+pub mod own;
 pub mod pack;
 pub mod print;
 pub mod program;

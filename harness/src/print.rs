@@ -31,6 +31,7 @@ pub fn print(text: &[u8], lent_length: usize) -> String {
     }
 }
 
-fn refused(number: u8, line: usize) -> String {
+/// The three lines of a refusal.
+pub fn refused(number: u8, line: usize) -> String {
     format!("answer=refused\nnumber={number}\nline={line}\n")
 }

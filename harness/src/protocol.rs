@@ -19,6 +19,8 @@ pub enum Kind {
     Write,
     /// The codes, followed.
     Follow,
+    /// What mend prints for the text, and the lent buffer behind it.
+    Mend,
 }
 
 impl Kind {
@@ -27,6 +29,7 @@ impl Kind {
             Kind::Query => b'q',
             Kind::Write => b'w',
             Kind::Follow => b'f',
+            Kind::Mend => b'm',
         }
     }
 
@@ -35,6 +38,7 @@ impl Kind {
             b'q' => Some(Kind::Query),
             b'w' => Some(Kind::Write),
             b'f' => Some(Kind::Follow),
+            b'm' => Some(Kind::Mend),
             _ => None,
         }
     }
@@ -46,7 +50,7 @@ pub struct Request {
     /// At most 4,096.
     pub lent: u16,
     pub text: Vec<u8>,
-    /// Empty unless the kind is Follow.
+    /// Follow's list; for Mend one byte, any, if the text is wanted alone. Otherwise empty.
     pub codes: Vec<u8>,
 }
 

@@ -1,11 +1,13 @@
 //! The response that a request must get, by the simulator.
 
 use crate::follow::{follow, NotFollowed};
+use crate::mend::{mend, print_mending, Change};
 use crate::print::print;
 use crate::protocol::{Kind, Request};
 use crate::text::{read, write, Refusal};
+use std::collections::BTreeSet;
 
-/// What a lent buffer holds before the writer is called.
+/// What a lent buffer holds before the writer or the mender is called.
 pub const FILL: u8 = 0xAA;
 
 pub fn reply(request: &Request) -> Vec<u8> {
@@ -13,6 +15,7 @@ pub fn reply(request: &Request) -> Vec<u8> {
         Kind::Query => print(&request.text, usize::from(request.lent)).into_bytes(),
         Kind::Write => reply_write(request),
         Kind::Follow => reply_follow(request),
+        Kind::Mend => reply_mend(request),
     }
 }
 
@@ -58,9 +61,31 @@ fn reply_follow(request: &Request) -> Vec<u8> {
     response
 }
 
-/// The sort of a response, for counting: "all", "never", "refused 2", "written" and so on.
-pub fn sort_of(kind: Kind, response: &[u8]) -> String {
-    match (kind, response) {
+fn reply_mend(request: &Request) -> Vec<u8> {
+    let mut lent = vec![FILL; usize::from(request.lent)];
+    let mending = mend(&request.text, &mut lent);
+    let mut response = print_mending(&mending, !request.codes.is_empty());
+    response.extend(&lent);
+    response
+}
+
+/// The sort of a mending: the kinds of its changes where they are printed, or the refusal.
+fn sort_of_mending(request: &Request) -> String {
+    match mend(&request.text, &mut vec![FILL; usize::from(request.lent)]) {
+        Err(number) => format!("refused {number}"),
+        Ok(_) if !request.codes.is_empty() => "text alone".to_string(),
+        Ok(mended) if mended.changes.is_empty() => "unchanged".to_string(),
+        Ok(mended) => {
+            let kinds: BTreeSet<Change> = mended.changes.iter().map(|(_, change)| *change).collect();
+            kinds.into_iter().map(Change::name).collect::<Vec<_>>().join(" ")
+        }
+    }
+}
+
+/// The sort of the simulator's response, for counting: "all", "never", "refused 2", "written" and so on.
+pub fn sort_of(request: &Request, response: &[u8]) -> String {
+    match (request.kind, response) {
+        (Kind::Mend, _) => sort_of_mending(request),
         (Kind::Query, _) => {
             let text = String::from_utf8_lossy(response);
             let mut lines = text.lines();

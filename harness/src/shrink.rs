@@ -1,11 +1,14 @@
 //! Makes a request that shows a difference smaller, while the difference stays.
 
 use crate::hand::{self, Counts};
+use crate::mend::mended;
 use crate::pack::packed;
 use crate::print::BENCH_LENDS;
 use crate::program::{Op, Program, Question, Want};
 use crate::protocol::{Kind, Request};
 use crate::text::{read, text_of};
+use std::iter::successors;
+use std::ops::Range;
 
 /// Requests tried at most for one difference.
 const MOST_TRIES: usize = 20_000;
@@ -20,19 +23,19 @@ pub fn shrink(request: &Request, first_that_differs: &mut dyn FnMut(&[Request]) 
     let mut best = request.clone();
     let mut tries = 0;
     'smaller: loop {
-        let mut smaller = candidates(&best);
-        smaller.retain(ends_soon);
-        for few in smaller.chunks(TRIED_AT_ONCE) {
+        let from = best.clone();
+        let mut smaller = candidates(&from).filter(ends_soon);
+        loop {
+            let few: Vec<Request> = smaller.by_ref().take(TRIED_AT_ONCE).collect();
             tries += few.len();
-            if tries > MOST_TRIES {
+            if few.is_empty() || tries > MOST_TRIES {
                 return best;
             }
-            if let Some(index) = first_that_differs(few) {
+            if let Some(index) = first_that_differs(&few) {
                 best = few[index].clone();
                 continue 'smaller;
             }
         }
-        return best;
     }
 }
 
@@ -65,56 +68,82 @@ fn total(program: &Program) -> Option<u64> {
     (!counts.over).then_some(counts.runs)
 }
 
-/// Requests a little smaller than this one, the boldest first.
-fn candidates(request: &Request) -> Vec<Request> {
+/// Requests a little smaller than this one, the boldest first; each is made only when it is tried, as a long text has many.
+fn candidates(request: &Request) -> Box<dyn Iterator<Item = Request> + '_> {
     let with_text = |text: Vec<u8>| Request { text, ..request.clone() };
-    let mut found: Vec<Request> =
-        shorter_lists(&request.codes).into_iter().map(|codes| Request { codes, ..request.clone() }).collect();
-    match read(&request.text) {
-        Ok(question) => {
-            found.extend(smaller_questions(&question).iter().map(|smaller| with_text(text_of(smaller).into_bytes())));
+    let lents = smaller_lents(request).into_iter().map(|lent| Request { lent, ..request.clone() });
+    let codes = shorter_lists(&request.codes).map(|codes| Request { codes, ..request.clone() });
+    let lents_and_codes = lents.chain(codes);
+    match (request.kind, read(&request.text)) {
+        // Mending looks at bytes, not at a question.
+        (Kind::Mend, _) => Box::new(lents_and_codes.chain(smaller_mendings(request))),
+        (_, Ok(question)) => {
+            let texts = smaller_questions(&question).into_iter().map(|smaller| text_of(&smaller).into_bytes());
+            Box::new(lents_and_codes.chain(texts.map(with_text)))
         }
-        Err(_) => found.extend(shorter_texts(&request.text).into_iter().map(with_text)),
+        (_, Err(_)) => Box::new(lents_and_codes.chain(shorter_texts(&request.text).map(with_text))),
     }
-    if request.kind == Kind::Query && usize::from(request.lent) != BENCH_LENDS {
-        found.push(Request { lent: BENCH_LENDS as u16, ..request.clone() });
+}
+
+/// Lent lengths that are smaller, or plainer, than the request's.
+fn smaller_lents(request: &Request) -> Vec<u16> {
+    match request.kind {
+        Kind::Query if usize::from(request.lent) != BENCH_LENDS => vec![BENCH_LENDS as u16],
+        Kind::Write if request.lent > 0 => vec![0, request.lent / 2, request.lent - 1],
+        Kind::Mend => {
+            let needed = needed(&request.text);
+            let mut lents = vec![0, 1, needed, needed + 1, request.lent / 2, request.lent.saturating_sub(1)];
+            lents.retain(|&lent| lent < request.lent);
+            lents
+        }
+        _ => Vec::new(),
     }
-    if request.kind == Kind::Write && request.lent > 0 {
-        found.push(Request { lent: 0, ..request.clone() });
-        found.push(Request { lent: request.lent / 2, ..request.clone() });
-        found.push(Request { lent: request.lent - 1, ..request.clone() });
-    }
-    found
+}
+
+/// The length of the text, mended.
+fn needed(text: &[u8]) -> u16 {
+    mended(text).text.len().min(usize::from(u16::MAX) - 1) as u16
+}
+
+/// Requests to mend a shorter or a plainer text. A lent length at most one off what is needed is tried at the same distance too.
+fn smaller_mendings(request: &Request) -> impl Iterator<Item = Request> + '_ {
+    let distance = i32::from(request.lent) - i32::from(needed(&request.text));
+    plainer_texts(&request.text).flat_map(move |text| {
+        let lent = i32::from(needed(&text)) + distance;
+        let moved = (-1..=1).contains(&distance) && (0..i32::from(request.lent)).contains(&lent);
+        let moved = moved.then(|| Request { lent: lent as u16, text: text.clone(), ..request.clone() });
+        moved.into_iter().chain([Request { text, ..request.clone() }])
+    })
+}
+
+/// Each half of so many items, then each quarter .. and each of them.
+fn pieces(length: usize) -> impl Iterator<Item = Range<usize>> {
+    let sizes = successors(Some(length.div_ceil(2)), |&size| (size > 1).then(|| size.div_ceil(2)));
+    sizes
+        .take_while(|&size| size > 0)
+        .flat_map(move |size| (0..length).step_by(size).map(move |start| start..(start + size).min(length)))
 }
 
 /// The list without a half, a quarter .. or one of its items.
-fn shorter_lists(items: &[u8]) -> Vec<Vec<u8>> {
-    let mut found = Vec::new();
-    let mut size = items.len().div_ceil(2);
-    while size > 0 {
-        for start in (0..items.len()).step_by(size) {
-            let end = (start + size).min(items.len());
-            found.push([&items[..start], &items[end..]].concat());
-        }
-        if size == 1 {
-            break;
-        }
-        size = size.div_ceil(2);
-    }
-    found
+fn shorter_lists(items: &[u8]) -> impl Iterator<Item = Vec<u8>> + '_ {
+    pieces(items.len()).map(|piece| [&items[..piece.start], &items[piece.end..]].concat())
+}
+
+/// The text without a piece of it, or with that piece made plain if it is not.
+fn plainer_texts(text: &[u8]) -> impl Iterator<Item = Vec<u8>> + '_ {
+    pieces(text.len()).flat_map(move |piece| {
+        let without = [&text[..piece.start], &text[piece.end..]].concat();
+        let plain = [&text[..piece.start], &vec![b'x'; piece.len()], &text[piece.end..]].concat();
+        [Some(without), Some(plain).filter(|plain| plain != text)].into_iter().flatten()
+    })
 }
 
 /// The text without one of its lines, or without some of its bytes.
-fn shorter_texts(text: &[u8]) -> Vec<Vec<u8>> {
+fn shorter_texts(text: &[u8]) -> impl Iterator<Item = Vec<u8>> + '_ {
     let lines: Vec<&[u8]> = text.split_inclusive(|&byte| byte == b'\n').collect();
-    let mut found = Vec::new();
-    for dropped in 0..lines.len() {
-        let kept: Vec<&[u8]> =
-            lines.iter().enumerate().filter(|(at, _)| *at != dropped).map(|(_, line)| *line).collect();
-        found.push(kept.concat());
-    }
-    found.extend(shorter_lists(text));
-    found
+    let fewer_lines =
+        (0..lines.len()).map(move |dropped| [lines[..dropped].concat(), lines[dropped + 1..].concat()].concat());
+    fewer_lines.chain(shorter_lists(text))
 }
 
 /// Questions with a thread, an instruction or a location less, or with a lower number.

@@ -27,7 +27,10 @@ fn the_simulator_agrees_with_itself() {
     for number in [1, 2, 3, 4, 5, 9] {
         assert!(output.contains(&format!("q refused {number}:")), "{number} was never seen");
     }
-    for sort in ["q all", "q reached", "q never", "q over", "f followed", "f refused 10", "w written", "w refused 9"] {
+    let bench = ["q all", "q reached", "q never", "q over", "f followed", "f refused 10", "w written", "w refused 9"];
+    let mend =
+        ["m unchanged", "m cr", "m blank", "m zero", "m lf", "m cr blank zero lf", "m text alone", "m refused 9"];
+    for sort in bench.into_iter().chain(mend).chain(["m refused 12"]) {
         assert!(output.contains(&format!("  {sort}: ")), "{sort} was never seen");
     }
 }
@@ -40,6 +43,9 @@ fn each_slip_is_found_and_made_small() {
         ("carriage-return-read", 1, "\\r"),
         ("writer-clears", 0, "R 9 170"),
         ("index-from-one", 0, "R 10 0 0 0 0"),
+        ("mender-feeds-nothing", 0, "number=9"),
+        ("mender-clears", 0, "lent: 170"),
+        ("mender-longest", 0, "number=12"),
         ("ends", 1, "ended without a response"),
     ] {
         let (output, ended_well) = compared(Some(slip));

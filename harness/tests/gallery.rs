@@ -12,7 +12,10 @@ fn every_text_has_its_answer() {
     let directory = concat!(env!("CARGO_MANIFEST_DIR"), "/../gallery");
     let (output, ended_well) = gallery(&[directory]);
     assert!(ended_well && output.ends_with(" texts, 0 differ\n"), "{output}");
-    let (output, ended_well) = gallery(&[directory, "--", env!("CARGO_BIN_EXE_simulate")]);
+    let simulate = env!("CARGO_BIN_EXE_simulate");
+    let (output, ended_well) = gallery(&[directory, "--", simulate]);
+    assert!(ended_well && output.ends_with(" texts, 0 differ\n"), "{output}");
+    let (output, ended_well) = gallery(&[directory, "--", simulate, "--", simulate, "mend"]);
     assert!(ended_well && output.ends_with(" texts, 0 differ\n"), "{output}");
 }
 
@@ -21,6 +24,10 @@ fn another_output_is_a_difference() {
     let directory = concat!(env!("CARGO_MANIFEST_DIR"), "/../gallery");
     let (output, ended_well) = gallery(&[directory, "--", env!("CARGO_BIN_EXE_mock")]);
     assert!(!ended_well && !output.ends_with(" 0 differ\n"), "{output}");
+    // One that does not mend differs on each text from the forum, and on the one too long, and on no question.
+    let simulate = env!("CARGO_BIN_EXE_simulate");
+    let (output, ended_well) = gallery(&[directory, "--", simulate, "--", simulate]);
+    assert!(!ended_well && output.ends_with(" 4 differ\n"), "{output}");
     // No texts at all are no agreement.
     assert!(!gallery(&[concat!(env!("CARGO_MANIFEST_DIR"), "/src")]).1);
 }

@@ -1,21 +1,25 @@
-//! `gallery DIR [-- COMMAND..]`: each text of the gallery beside its expected output, by the simulator and by a command.
+//! `gallery DIR [-- BENCH.. [-- MEND..]]`: each question of the gallery and each text from the forum beside its expected output, by the simulator
+//! and by the commands of `bench` and `mend`.
 
+use harness::mend::{mend, print_mending, Mended, MAX_FORUM, MEND_LENDS};
 use harness::print::{print, BENCH_LENDS};
 use std::io::{self, Write};
 use std::path::{Path, PathBuf};
-use std::process::{Command, ExitCode, Stdio};
+use std::process::{Command, ExitCode, Output, Stdio};
 
 fn main() -> ExitCode {
-    let arguments: Vec<String> = std::env::args().skip(1).collect();
-    let (directory, command) = match arguments.as_slice() {
-        [directory] => (directory, &[][..]),
-        [directory, dashes, command @ ..] if dashes == "--" && !command.is_empty() => (directory, command),
+    let words: Vec<String> = std::env::args().skip(1).collect();
+    let parts: Vec<&[String]> = words.split(|word| word == "--").collect();
+    let (directory, bench, mend) = match parts[..] {
+        [[directory]] => (directory, &[][..], &[][..]),
+        [[directory], bench @ [_, ..]] => (directory, bench, &[][..]),
+        [[directory], bench @ [_, ..], mend @ [_, ..]] => (directory, bench, mend),
         _ => {
-            eprintln!("usage: gallery DIR [-- COMMAND..]");
+            eprintln!("usage: gallery DIR [-- BENCH.. [-- MEND..]]");
             return ExitCode::from(2);
         }
     };
-    match compare(Path::new(directory), command) {
+    match compare(Path::new(directory), bench, mend) {
         Ok((texts, 0)) if texts > 0 => ExitCode::SUCCESS,
         Ok(_) => ExitCode::FAILURE,
         Err(error) => {
@@ -25,8 +29,8 @@ fn main() -> ExitCode {
     }
 }
 
-/// Compares every text of the directory: how many there are, and how many differ.
-fn compare(directory: &Path, command: &[String]) -> io::Result<(usize, usize)> {
+/// Compares every text of the directory: how many there are, and how many differ. An empty command is left out.
+fn compare(directory: &Path, bench: &[String], mend: &[String]) -> io::Result<(usize, usize)> {
     let mut texts: Vec<PathBuf> = Vec::new();
     for entry in std::fs::read_dir(directory)? {
         let path = entry?.path();
@@ -37,16 +41,69 @@ fn compare(directory: &Path, command: &[String]) -> io::Result<(usize, usize)> {
     texts.sort();
     let mut differ = 0;
     for path in &texts {
-        let text = std::fs::read(path)?;
-        let expected = std::fs::read(path.with_extension("out")).unwrap_or_default();
-        let mut agrees = same(path, "simulator", &expected, print(&text, BENCH_LENDS).as_bytes());
-        if !command.is_empty() {
-            agrees &= same(path, "command", &expected, &output_of(command, &text)?);
-        }
+        let from_forum = path.to_string_lossy().ends_with(".forum.txt");
+        let agrees = if from_forum { post_agrees(path, bench, mend)? } else { question_agrees(path, bench)? };
         differ += usize::from(!agrees);
+    }
+    if !mend.is_empty() {
+        differ += usize::from(!refusal_agrees(mend)?);
     }
     println!("{} texts, {differ} differ", texts.len());
     Ok((texts.len(), differ))
+}
+
+fn question_agrees(path: &Path, bench: &[String]) -> io::Result<bool> {
+    let text = std::fs::read(path)?;
+    let expected = std::fs::read(path.with_extension("out")).unwrap_or_default();
+    let mut agrees = same(path, "simulator", &expected, print(&text, BENCH_LENDS).as_bytes());
+    if !bench.is_empty() {
+        agrees &= same(path, "bench", &expected, &output_of(bench, &text)?);
+    }
+    Ok(agrees)
+}
+
+/// A text from the forum: what mend prints for it, the mended text alone, and what bench answers to that. Where X.txt is there, X.forum.txt is
+/// that question with the forum's damage, and mending must give it back.
+fn post_agrees(path: &Path, bench: &[String], mender: &[String]) -> io::Result<bool> {
+    let post = std::fs::read(path)?;
+    let expected = std::fs::read(path.with_extension("out")).unwrap_or_default();
+    let mending = mend(&post, &mut [0; MEND_LENDS]);
+    let mut agrees = same(path, "simulator", &expected, &print_mending(&mending, false));
+    if !mender.is_empty() {
+        agrees &= same(path, "mend", &expected, &output_of(mender, &post)?);
+    }
+    let Ok(Mended { text, .. }) = mending else {
+        return Ok(agrees);
+    };
+    let question = path.with_extension("").with_extension("txt");
+    if question.exists() {
+        agrees &= same(path, "simulator's mended text", &std::fs::read(question)?, &text);
+    }
+    let mut mended = text.clone();
+    if !mender.is_empty() {
+        mended = output_of(&with_text(mender), &post)?;
+        agrees &= same(path, "mend's text alone", &text, &mended);
+    }
+    if !bench.is_empty() {
+        let answer = print(&text, BENCH_LENDS);
+        agrees &= same(path, "bench's answer to the mended text", answer.as_bytes(), &output_of(bench, &mended)?);
+    }
+    Ok(agrees)
+}
+
+/// A text too long to be mended: mend says so, but on standard error where the text is wanted alone, and then nothing on standard output.
+fn refusal_agrees(mender: &[String]) -> io::Result<bool> {
+    let (path, post) = (Path::new("a text too long"), [b' '; MAX_FORUM + 1]);
+    let refusal = print_mending(&mend(&post, &mut []), false);
+    let alone = run(&with_text(mender), &post)?;
+    Ok(same(path, "mend", &refusal, &output_of(mender, &post)?)
+        & same(path, "mend's text alone", b"", &alone.stdout)
+        & same(path, "mend's standard error", &refusal, &alone.stderr))
+}
+
+/// The command with the argument that lets mend print the text alone.
+fn with_text(mender: &[String]) -> Vec<String> {
+    [mender, &["text".to_string()]].concat()
 }
 
 /// Whether an output is the expected one; both are shown if not.
@@ -60,13 +117,20 @@ fn same(path: &Path, whose: &str, expected: &[u8], output: &[u8]) -> bool {
     false
 }
 
-/// What the command prints for a text on its standard input.
+/// What the command prints for a text on its standard input. What it says on standard error is passed on.
 fn output_of(command: &[String], text: &[u8]) -> io::Result<Vec<u8>> {
-    let mut child =
-        Command::new(&command[0]).args(&command[1..]).stdin(Stdio::piped()).stdout(Stdio::piped()).spawn()?;
+    let output = run(command, text)?;
+    io::stderr().write_all(&output.stderr)?;
+    Ok(output.stdout)
+}
+
+fn run(command: &[String], text: &[u8]) -> io::Result<Output> {
+    let mut piped = Command::new(&command[0]);
+    piped.args(&command[1..]).stdin(Stdio::piped()).stdout(Stdio::piped()).stderr(Stdio::piped());
+    let mut child = piped.spawn()?;
     if let Some(mut input) = child.stdin.take() {
         // A command that does not read its input shows by its output.
         let _ = input.write_all(text);
     }
-    Ok(child.wait_with_output()?.stdout)
+    child.wait_with_output()
 }

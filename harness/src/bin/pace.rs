@@ -1,8 +1,9 @@
-//! Measures the program's walk beside the one written by hand, and its reader: `pace GALLERY -- BENCH.. -- HAND.. -- ANSWERS..`, the command lines
-//! of `bench`, of pace/hand.rs and of `answers`. Each runs every question in turn, five times; the shortest time counts, less that of a question
-//! with one run, or of as many empty texts.
+//! Measures the program's walk beside the one written by hand, its reader, and its mending beside the simulator's: `pace GALLERY -- BENCH.. --
+//! HAND.. -- ANSWERS.. -- SIMULATOR..`, the command lines of `bench`, of pace/hand.rs, of `answers`, and of the simulator answering the same
+//! requests. Each runs every question in turn, five times; the shortest time counts, less that of a question with one run, or of as many empty texts.
 
 use harness::hand::memory_number;
+use harness::mend::MEND_LENDS;
 use harness::pack::packed;
 use harness::program::{Question, Want};
 use harness::protocol::{Kind, Request};
@@ -36,13 +37,17 @@ const TEXTS: usize = 500;
 const LONGEST_HEAD: &str = "threads=4\nlocs=6\nbudget=1000000000\nwant=255,255,255,255,255,255\n";
 const LONGEST_OP: &str = "op=cas,3,5,255,255\n";
 
+/// The lengths of the texts to be mended, and the line of which they are made: each kind of damage is on it, and on the last the line feed lacks.
+const MENDED: [usize; 4] = [256, 512, 1024, 2048];
+const FORUM_LINE: &str = "op=cas,00,01,000,042 \r \r\n";
+
 const GALLERY: [&str; 4] = ["store-buffering-fenced", "two-writers-locked", "tare-replaced", "log-fenced"];
 
 fn main() {
     let words: Vec<String> = std::env::args().skip(1).collect();
     let parts: Vec<&[String]> = words.split(|word| word == "--").collect();
-    let [[gallery], bench, hand, answers] = parts[..] else {
-        eprintln!("usage: pace GALLERY -- BENCH.. -- HAND.. -- ANSWERS..");
+    let [[gallery], bench, hand, answers, simulator] = parts[..] else {
+        eprintln!("usage: pace GALLERY -- BENCH.. -- HAND.. -- ANSWERS.. -- SIMULATOR..");
         std::process::exit(2);
     };
     let mut questions: Vec<(String, String)> =
@@ -75,6 +80,38 @@ fn main() {
         let one = shortest(answers, &read_only(&text)).0.saturating_sub(no_text).as_secs_f64() / TEXTS as f64;
         println!("| {name} | {} | {:.0} | {:.0} |", text.len(), 1.0 / one, one / run_of_a);
     }
+    pace_of_mending(answers, simulator, run_of_a);
+}
+
+/// The table of mending. Both must say the same, or nothing is measured.
+fn pace_of_mending(answers: &[String], simulator: &[String], run_of_a: f64) {
+    let no_text = [answers, simulator].map(|command| shortest(command, &mend_only(&[])).0);
+    println!("\n| bytes | mended, texts a second | by the simulator, texts a second | by the simulator, times as fast | as long as so many runs of a |");
+    println!("|---|---|---|---|---|");
+    for length in MENDED {
+        let text: Vec<u8> = FORUM_LINE.bytes().cycle().take(length).collect();
+        let (mine, said) = shortest(answers, &mend_only(&text));
+        let (other, expected) = shortest(simulator, &mend_only(&text));
+        if said != expected {
+            eprintln!("pace: {length} bytes are not mended as the simulator mends them");
+            std::process::exit(1);
+        }
+        let [mine, other] = [mine.saturating_sub(no_text[0]), other.saturating_sub(no_text[1])]
+            .map(|time| time.as_secs_f64() / TEXTS as f64);
+        println!(
+            "| {length} | {:.0} | {:.0} | {:.1} | {:.0} |",
+            1.0 / mine,
+            1.0 / other,
+            mine / other,
+            mine / run_of_a
+        );
+    }
+}
+
+/// Requests to mend this text, with room enough and with all that is printed.
+fn mend_only(text: &[u8]) -> Vec<u8> {
+    let request = Request { kind: Kind::Mend, lent: MEND_LENDS as u16, text: text.to_vec(), codes: vec![] };
+    request.bytes().repeat(TEXTS)
 }
 
 /// Requests that do little more than read this text: to follow no codes.
@@ -101,7 +138,7 @@ fn bytes(text: &str) -> Vec<u8> {
         Want::All => [0, 0],
         Want::One(memory) => [1, memory_number(&memory)],
     };
-    for number in [budget as u64, wanted[0], wanted[1]] {
+    for number in [budget, wanted[0], wanted[1]] {
         bytes.extend(number.to_le_bytes());
     }
     bytes
@@ -117,8 +154,12 @@ fn shortest(command: &[String], input: &[u8]) -> (Duration, Vec<u8>) {
             .stdout(Stdio::piped())
             .spawn()
             .expect("the command");
-        child.stdin.take().expect("its input").write_all(input).expect("its input");
-        let output = child.wait_with_output().expect("its output");
+        let mut its_input = child.stdin.take().expect("its input");
+        // Written while the output is taken, so neither waits for the other with full hands.
+        let output = std::thread::scope(|scope| {
+            scope.spawn(move || its_input.write_all(input).expect("its input"));
+            child.wait_with_output().expect("its output")
+        });
         (start.elapsed(), output.stdout)
     });
     runs.min_by_key(|(time, _)| *time).expect("at least one run")

@@ -1,5 +1,6 @@
 //! A stand-in for the proved side's test program: the simulator itself, with one slip if an argument names it.
 
+use harness::mend::{mended, MAX_FORUM};
 use harness::protocol::{put_response, Kind, Request};
 use harness::reply::reply;
 use std::io::{self, BufReader, BufWriter, Write};
@@ -42,6 +43,16 @@ fn answer(slip: &str, request: &Request) -> Vec<u8> {
             wrong[2] = wrong[2].wrapping_add(1);
             wrong
         }
+        // A line feed for a text of which nothing is left.
+        "mender-feeds-nothing" if request.kind == Kind::Mend && mended(&request.text).text.is_empty() => {
+            with_text("\n".to_string())
+        }
+        "mender-clears" if request.kind == Kind::Mend && right.starts_with(b"answer=refused") => {
+            let printed = right.len() - usize::from(request.lent);
+            right[..printed].iter().copied().chain(right[printed..].iter().map(|_| 0)).collect()
+        }
+        // The longest text taken for one over the limit.
+        "mender-longest" if request.kind == Kind::Mend && request.text.len() == MAX_FORUM => with_text(text + "x"),
         "ends" if request.kind == Kind::Query && text.contains("op=faa") => std::process::exit(3),
         _ => right,
     }
