@@ -76,10 +76,7 @@ undone-mending l d o e w short room =
     let b : ltb (length o) (length (mended d)) ≡ false = le-ltb (length o) (length (mended d)) (omega (arith, ap length same)) in
     (rw (a, b, same), rw (a, b, same))
 
--- A TEXT WITH NOTHING TO MEND, which the reader may refuse: its fault is not the forum's
-pub neat-reads : (l : List ℕ) → AllNeat (split lineFeed l) → lacks l ≡ false → readOf (mended l) ≡ readOf l
-neat-reads l h e = ap readOf (unchanged l h e .0)
-
--- THEOREM: the reader says of it, posted and mended, what it said before, the number and the line
+-- THEOREM: of a text with nothing to mend, which the reader may refuse, its fault not being the forum's, it says once it is posted and mended what
+-- it said before: the number and the line
 pub posted-reads : (l d : List ℕ) → AllNeat (split lineFeed l) → lacks l ≡ false → Posted l d → readOf (mended d) ≡ readOf l
 posted-reads l d h e w = ap readOf (undone l d h e w)

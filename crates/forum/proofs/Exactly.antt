@@ -10,9 +10,7 @@ use lib.Dec.{eqb, ltb}
 use lib.ListN.{length}
 use Rattle.names.specs.Names.{pick}
 use Rattle.number.specs.Decimal.{isDigit}
-use Rattle.forum.specs.declared.Changed.{Changed}
 use Rattle.forum.specs.Mend.{carriageReturn, space, zeroDigit, goes, allGo, trimmed, ending, leads, stripped, plain, has, changedIn}
-use Rattle.forum.specs.Mending.{untouched}
 use Rattle.forum.specs.Neat.{count}
 use Rattle.forum.proofs.Lines.{all-first, stripped-goes, stripped-stays}
 use Rattle.forum.proofs.Short.{with-ending, all-ending, stripped-short}
@@ -82,7 +80,3 @@ unfolding changedIn plain
 kept fed p e f g =
     stripped-kept false (trimmed p) (ltb-false (length (stripped false (trimmed p))) (length (trimmed p)) g)
     ∙ trimmed-kept p (ends-not (ending p) (all-ending p) e f)
-
-pub nothing-else : (p : List ℕ) → changedIn false p ≡ untouched → plain p ≡ p
-nothing-else p e =
-    kept false p (ap (λ (c : Changed). c .cr) e) (ap (λ (c : Changed). c .blank) e) (ap (λ (c : Changed). c .zero) e)

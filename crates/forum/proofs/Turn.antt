@@ -10,21 +10,13 @@ use lib.ListN.{length, getD, drop, drop-of-length-le}
 use lib.Seq.{drop-cons}
 use Rattle.names.specs.Names.{pick}
 use Rattle.number.specs.Decimal.{isDigit}
-use Rattle.forum.specs.Mend.{carriageReturn, space, goes, allGo, trimmed, zeroDigit, leads, stripped}
+use Rattle.forum.specs.Mend.{carriageReturn, goes, allGo, trimmed, zeroDigit, leads, stripped}
 use Rattle.forum.proofs.Lines.{trimmed-none}
 
--- a byte that goes at a line's end, and one that does not
+-- a carriage return goes at a line's end
 pub goes-return : (c : ℕ) → c ≡ carriageReturn → goes c ≡ true
 unfolding pick
 goes-return c e = rw (eq-eqb c carriageReturn e)
-
-pub goes-space : (c : ℕ) → c ≡ space → goes c ≡ true
-unfolding pick
-goes-space c e = rw e
-
-pub goes-not : (c : ℕ) → (c ≡ carriageReturn → ⊥) → (c ≡ space → ⊥) → goes c ≡ false
-unfolding pick
-goes-not c h k = rw (ne-eqb c carriageReturn h, ne-eqb c space k)
 
 -- a byte that stays, and all before it
 stays-somewhere : (l : List ℕ) (k : ℕ) → k < length l → goes (getD l k 0) ≡ false → allGo l ≡ false
