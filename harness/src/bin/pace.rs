@@ -1,6 +1,7 @@
 //! Measures the program's walk beside the one written by hand, its reader, and its mending beside the simulator's: `pace GALLERY -- BENCH.. --
 //! HAND.. -- ANSWERS.. -- SIMULATOR..`, the command lines of `bench`, of pace/hand.rs, of `answers`, and of the simulator answering the same
-//! requests. Each runs every question in turn, five times; the shortest time counts, less that of a question with one run, or of as many empty texts.
+//! requests. Each runs every question in turn, five times; the shortest time counts, less that of a question with one run. A batch of texts takes
+//! milliseconds: it is run a hundred times in turn with one of as many empty texts, whose shortest time is taken off.
 
 use harness::hand::memory_number;
 use harness::mend::MEND_LENDS;
@@ -14,6 +15,7 @@ use std::process::{Command, Stdio};
 use std::time::{Duration, Instant};
 
 const TIMES: usize = 5;
+const TEXT_TIMES: usize = 100;
 
 const ONE_RUN: &str = "threads=1\nlocs=1\nbudget=1\nwant=all\nthread=0\n";
 
@@ -73,11 +75,10 @@ fn main() {
         run_of_a.get_or_insert(mine / runs as f64);
     }
     let run_of_a = run_of_a.expect("question a");
-    let no_text = shortest(answers, &read_only("")).0;
     println!("\n| text | bytes | read, texts a second | as long as so many runs of a |");
     println!("|---|---|---|---|");
     for (name, text) in [("document 01's example", of_gallery("tare-flushed")), ("the longest", longest())] {
-        let one = shortest(answers, &read_only(&text)).0.saturating_sub(no_text).as_secs_f64() / TEXTS as f64;
+        let (one, _) = for_each(answers, &read_only(&text), &read_only(""));
         println!("| {name} | {} | {:.0} | {:.0} |", text.len(), 1.0 / one, one / run_of_a);
     }
     pace_of_mending(answers, simulator, run_of_a);
@@ -85,19 +86,16 @@ fn main() {
 
 /// The table of mending. Both must say the same, or nothing is measured.
 fn pace_of_mending(answers: &[String], simulator: &[String], run_of_a: f64) {
-    let no_text = [answers, simulator].map(|command| shortest(command, &mend_only(&[])).0);
     println!("\n| bytes | mended, texts a second | by the simulator, texts a second | by the simulator, times as fast | as long as so many runs of a |");
     println!("|---|---|---|---|---|");
     for length in MENDED {
         let text: Vec<u8> = FORUM_LINE.bytes().cycle().take(length).collect();
-        let (mine, said) = shortest(answers, &mend_only(&text));
-        let (other, expected) = shortest(simulator, &mend_only(&text));
+        let (mine, said) = for_each(answers, &mend_only(&text), &mend_only(&[]));
+        let (other, expected) = for_each(simulator, &mend_only(&text), &mend_only(&[]));
         if said != expected {
             eprintln!("pace: {length} bytes are not mended as the simulator mends them");
             std::process::exit(1);
         }
-        let [mine, other] = [mine.saturating_sub(no_text[0]), other.saturating_sub(no_text[1])]
-            .map(|time| time.as_secs_f64() / TEXTS as f64);
         println!(
             "| {length} | {:.0} | {:.0} | {:.1} | {:.0} |",
             1.0 / mine,
@@ -144,23 +142,32 @@ fn bytes(text: &str) -> Vec<u8> {
     bytes
 }
 
+/// The seconds that a command takes for one of the texts of a batch, less one of the empty batch; and what it wrote.
+fn for_each(command: &[String], batch: &[u8], empty: &[u8]) -> (f64, Vec<u8>) {
+    let runs: Vec<_> = (0..TEXT_TIMES).map(|_| (timed(command, empty).0, timed(command, batch))).collect();
+    let nothing = runs.iter().map(|(nothing, _)| *nothing).min().expect("at least one run");
+    let (time, said) = runs.into_iter().map(|(_, run)| run).min_by_key(|(time, _)| *time).expect("at least one run");
+    (time.saturating_sub(nothing).as_secs_f64() / TEXTS as f64, said)
+}
+
 /// The shortest time of a command on this input, and what it wrote.
 fn shortest(command: &[String], input: &[u8]) -> (Duration, Vec<u8>) {
-    let runs = (0..TIMES).map(|_| {
-        let start = Instant::now();
-        let mut child = Command::new(&command[0])
-            .args(&command[1..])
-            .stdin(Stdio::piped())
-            .stdout(Stdio::piped())
-            .spawn()
-            .expect("the command");
-        let mut its_input = child.stdin.take().expect("its input");
-        // Written while the output is taken, so neither waits for the other with full hands.
-        let output = std::thread::scope(|scope| {
-            scope.spawn(move || its_input.write_all(input).expect("its input"));
-            child.wait_with_output().expect("its output")
-        });
-        (start.elapsed(), output.stdout)
+    (0..TIMES).map(|_| timed(command, input)).min_by_key(|(time, _)| *time).expect("at least one run")
+}
+
+fn timed(command: &[String], input: &[u8]) -> (Duration, Vec<u8>) {
+    let start = Instant::now();
+    let mut child = Command::new(&command[0])
+        .args(&command[1..])
+        .stdin(Stdio::piped())
+        .stdout(Stdio::piped())
+        .spawn()
+        .expect("the command");
+    let mut its_input = child.stdin.take().expect("its input");
+    // Written while the output is taken, so neither waits for the other with full hands.
+    let output = std::thread::scope(|scope| {
+        scope.spawn(move || its_input.write_all(input).expect("its input"));
+        child.wait_with_output().expect("its output")
     });
-    runs.min_by_key(|(time, _)| *time).expect("at least one run")
+    (start.elapsed(), output.stdout)
 }
