@@ -249,11 +249,11 @@ impl Walk<'_> {
                 self.registers[t][reg] = self.seen[loc];
             }
             CAS => {
-                let value = self.load(t, loc);
+                if !fenced {
+                    return false;
+                }
+                let value = self.seen[loc];
                 if value == x {
-                    if !fenced {
-                        return false;
-                    }
                     queued = Some(y);
                 }
                 self.registers[t][reg] = value;

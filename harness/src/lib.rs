@@ -1,4 +1,4 @@
-//! A second source for the crash bench, written from document 01; what mends a text, from the words of request 1.
+//! A second source for the crash bench, written from document 01, with request 2's cas; what mends a text, from the words of request 1.
 //!
 //! The simulator: `program`, `text`, `machine`, `ask`, `follow`, `print`; `mend`. Two faster ways to count: `fast` and `hand`.
 //! The comparison with the proved side: `protocol`, `reply`, `generate`, `compare`, `own`, `shrink`.

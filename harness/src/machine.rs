@@ -1,4 +1,5 @@
-//! The storage machine: its state, and what each code does to it. To be read beside "The machine" of document 01.
+//! The storage machine: its state, and what each code does to it. To be read beside "The machine" of document 01, and
+//! request 2 of document 02: a cas waits as faa does, whether it stores or not.
 
 use crate::program::{Op, Program, REGISTERS};
 use std::collections::VecDeque;
@@ -80,7 +81,7 @@ impl State {
         self.queues.iter().all(|queue| !queue.contains(&mark))
     }
 
-    /// What mf, faa and a cas that stores need: an empty buffer and no fo entry of one's own in any queue.
+    /// What mf, faa and every cas need: an empty buffer and no fo entry of one's own in any queue.
     fn fenced(&self, t: usize) -> Result<(), Stop> {
         if self.threads[t].buffer.is_empty() && self.no_mark_of(t) {
             Ok(())
@@ -151,9 +152,9 @@ fn instruction(program: &Program, state: &State, t: usize) -> Result<State, Stop
             next.threads[t].registers[usize::from(reg)] = old;
         }
         Op::Cas { reg, loc, expected, new } => {
+            state.fenced(t)?;
             let old = state.load(t, loc);
             if old == expected {
-                state.fenced(t)?;
                 next.push_queue(loc, Queued::Write { value: new })?;
             }
             next.threads[t].registers[usize::from(reg)] = old;

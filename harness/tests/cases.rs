@@ -118,10 +118,13 @@ fn case_12_an_fo_overtakes_no_store_to_its_location() {
 }
 
 #[test]
-fn case_13_a_failed_cas_is_a_plain_load() {
+fn case_13_a_cas_that_loses_waits_as_well() {
     let codes = [0, 0, 0, 0, 16, 16, 16, 65];
-    let after = followed(&["st,0,1 fo,0 cas,0,1,5,9 st,1,1"], 2, &codes);
-    assert_eq!(after.memory[..2], [0, 1]);
+    let threads = ["st,0,1 fo,0 cas,0,1,5,9 st,1,1"];
+    assert_eq!(refused_at(&threads, 2, &codes), 2);
+    // So the memory that document 01's list left is left by no run.
+    let (answer, _) = one(&threads, 2, 1_000, "0,1");
+    assert!(matches!(answer, Answer::Never { .. }), "{answer:?}");
 }
 
 #[test]

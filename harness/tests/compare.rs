@@ -39,6 +39,7 @@ fn the_simulator_agrees_with_itself() {
 fn each_slip_is_found_and_made_small() {
     for (slip, most_ops, says) in [
         ("fo-waits", 1, "fo,0"),
+        ("lost-cas-loads", 2, "cas,"),
         ("equal-is-over", 0, "answer=over"),
         ("carriage-return-read", 1, "\\r"),
         ("writer-clears", 0, "R 9 170"),

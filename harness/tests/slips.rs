@@ -75,10 +75,17 @@ fn locked_operations_need_what_a_fence_needs() {
     assert_eq!(refused_at(&["fo,1 faa,0,0,1"], 2, &[0, 16, 0]), 2);
     assert_eq!(refused_at(&["st,1,1 cas,0,0,0,7"], 2, &[0, 0]), 1);
     assert_eq!(refused_at(&["fo,1 cas,0,0,0,7"], 2, &[0, 16, 0]), 2);
-    // The value in one's own buffer decides whether a cas stores.
+    // Whether it stores or not: a cas that loses needs the same, and stores nothing.
+    assert_eq!(refused_at(&["st,1,1 cas,0,0,5,7"], 2, &[0, 0]), 1);
+    assert_eq!(refused_at(&["fo,1 cas,0,0,5,7"], 2, &[0, 16, 0]), 2);
+    followed(&["fo,1 cas,0,0,5,7"], 2, &[0, 16, 65, 0]);
+    followed(&["st,1,1 fo,1", "cas,0,0,5,7"], 2, &[0, 1]);
+    followed(&["fo,1", "cas,0,0,5,7"], 2, &[0, 16, 1]);
     assert_eq!(refused_at(&["st,0,5 cas,0,0,5,7"], 1, &[0, 0]), 1);
-    let failed = followed(&["st,0,5 cas,0,0,0,7"], 1, &[0, 0]);
-    assert_eq!(failed.registers[0][0], 5);
+    assert_eq!(refused_at(&["st,0,5 cas,0,0,0,7"], 1, &[0, 0]), 1);
+    let lost = followed(&["st,0,5 cas,0,0,0,7"], 1, &[0, 16, 0, 64]);
+    assert_eq!((lost.memory[0], lost.registers[0][0]), (5, 5));
+    assert_eq!(refused_at(&["st,0,5 cas,0,0,0,7"], 1, &[0, 16, 0, 64, 64]), 4);
     let stored = followed(&["st,0,5 cas,0,0,5,7"], 1, &[0, 16, 0, 64, 64]);
     assert_eq!((stored.memory[0], stored.registers[0][0]), (7, 5));
 }

@@ -72,7 +72,7 @@ module _ (p : Prog) where
   does-falls put f m t (St l v) w h = f m t _ w (omega arith)
   does-falls put f m t (Sr l r) w h = f m t _ w (omega arith)
   does-falls put f m t (Ld r l) w h = omega arith
-  does-falls put f m t (Cas r l e n) w h = then-either _ _ _ _ (locked-falls m t _ _ _ w (omega arith)) (omega arith)
+  does-falls put f m t (Cas r l e n) w h = then-either _ _ _ _ (locked-falls m t _ _ _ w (omega arith)) (then-when _ _ _ (omega arith))
   does-falls put f m t (Faa r l v) w h = locked-falls m t _ _ _ w (omega arith)
   does-falls put f m t Mf w h = then-when _ _ _ (omega arith)
   does-falls put f m t Sf w h = f m t _ w (omega arith)

@@ -135,7 +135,7 @@ module _ (p : Prog) where
   does-safe put f m t (St l v) h = f m t _ h
   does-safe put f m t (Sr l r) h = f m t _ h
   does-safe put f m t (Ld r l) h = wrote-spare 0 m t _ _ (spare m t h)
-  does-safe put f m t (Cas r l e n) h = safe-either _ _ _ _ (locked-safe m t _ _ _ h) (wrote-spare 0 m t _ _ (spare m t h))
+  does-safe put f m t (Cas r l e n) h = safe-either _ _ _ _ (locked-safe m t _ _ _ h) (safe-when _ _ _ (wrote-spare 0 m t _ _ (spare m t h)))
   does-safe put f m t (Faa r l v) h = locked-safe m t _ _ _ h
   does-safe put f m t Mf h = safe-when _ _ _ (spare m t h)
   does-safe put f m t Sf h = f m t _ h

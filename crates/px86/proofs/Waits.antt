@@ -8,13 +8,15 @@ use mathlib.Core.Option.{some}
 use mathlib.Core.List.{List, [], _∷_}
 use lib.Dec.{ltb}
 use lib.ListN.{length}
+use Rattle.names.specs.declared.Loc.{Loc}
+use Rattle.names.specs.declared.Reg.{Reg}
 use Rattle.program.specs.Program.{Prog}
 use Rattle.program.specs.declared.Op.{Op}
 use Rattle.program.specs.declared.Op.the-variants.{St, Sr, Ld, Cas, Faa, Mf, Sf, Fl, Fo, Bz}
 use Rattle.px86.specs.Machine.{Entry, Mark, Machine, buffer, moved, wrote, buffered}
 use Rattle.px86.specs.Machine.Entry.{store, fence, flush, flushopt}
 use Rattle.px86.specs.Machine.Mark.{write, opt}
-use Rattle.px86.specs.Step.{Stepped, bufferRoom, queueRoom, when, fits, either, empty, clear, allClear, fenced, join, enqueue, locked, does, next, mayLeave, passes, goes, leaves, persists}
+use Rattle.px86.specs.Step.{Stepped, Puts, bufferRoom, queueRoom, when, fits, either, empty, clear, allClear, fenced, join, enqueue, locked, does, next, mayLeave, passes, goes, leaves, persists}
 use Rattle.px86.specs.Step.Stepped.{to, barred, full}
 use Rattle.px86.specs.Runs.{entries}
 use Rattle.px86.proofs.Done.{unheld}
@@ -88,7 +90,7 @@ module _ (p : Prog) (m : Machine) (noMark : entries (m .queues) ≡ 0) (t : ℕ)
   does-goes (St l v) = join-goes _
   does-goes (Sr l r) = join-goes _
   does-goes (Ld r l) = tt
-  does-goes (Cas r l e n) = goes-either _ _ _ (locked-goes _ _ _) tt
+  does-goes (Cas r l e n) = goes-either _ _ _ (locked-goes _ _ _) (goes-when _ _ fenced-true tt)
   does-goes (Faa r l v) = locked-goes _ _ _
   does-goes Mf = goes-when _ _ fenced-true tt
   does-goes Sf = join-goes _
@@ -99,6 +101,25 @@ module _ (p : Prog) (m : Machine) (noMark : entries (m .queues) ≡ 0) (t : ℕ)
 pub next-goes : (p : Prog) (m : Machine) (t : ℕ) (o : Op) → entries (m .queues) ≡ 0 → buffer m t ≡ [] → Goes (next p join m t (some o))
 unfolding next moved
 next-goes p m t o h b = does-goes p _ h t b o
+
+-- mf, and every cas "as faa does", is not allowed before its thread's buffer is empty and none of its fo entries is queued
+both-barred : (b : Bool) → either b barred barred ≡ barred
+unfolding either
+both-barred true = refl
+both-barred false = refl
+
+module _ (p : Prog) (put : Puts) (m : Machine) (t : ℕ) (h : fenced m t ≡ false) where
+  pub mf-waits : next p put m t (some Mf) ≡ barred
+  unfolding next moved does fenced when
+  mf-waits = rw h
+
+  pub faa-waits : (r : Reg) (l : Loc) (v : ℕ) → next p put m t (some (Faa r l v)) ≡ barred
+  unfolding next moved does fenced locked when
+  faa-waits r l v = rw h
+
+  pub cas-waits : (r : Reg) (l : Loc) (e n : ℕ) → next p put m t (some (Cas r l e n)) ≡ barred
+  unfolding next moved does fenced locked when
+  cas-waits r l e n = rw h (both-barred _)
 
 pub persists-goes : (m : Machine) (n : ℕ) (k : Mark) (q : List Mark) → Goes (persists m n (k ∷ q))
 unfolding persists

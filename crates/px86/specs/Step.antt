@@ -97,9 +97,10 @@ does p put m t (St l v) = put m t (store (l .0) v)
 does p put m t (Sr l r) = put m t (store (l .0) (register m t (r .0)))
 -- M-Read
 does p put m t (Ld r l) = to (wrote m t (r .0) (reads p m t (l .0)))
--- M-RMW, or M-Read where the value is not E: "it is a plain load"
+-- M-RMW, and where the value is not E nothing is written; "every cas needs its thread's buffer empty and none of its fo entries queued, as
+-- faa does" (document 02, request 2)
 does p put m t (Cas r l e n) =
-    either (eqb (reads p m t (l .0)) e) (locked p m t (r .0) (l .0) n) (to (wrote m t (r .0) (reads p m t (l .0))))
+    either (eqb (reads p m t (l .0)) e) (locked p m t (r .0) (l .0) n) (when (fenced m t) (to (wrote m t (r .0) (reads p m t (l .0)))))
 -- M-RMW
 does p put m t (Faa r l v) = locked p m t (r .0) (l .0) ((reads p m t (l .0) + v) % 256)
 -- M-MF

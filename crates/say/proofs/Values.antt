@@ -178,7 +178,7 @@ module _ (p : Prog) where
   small-does m t (Sr l r) b h = small-join m t (store (l .0) _) (h .registers t (r .0)) h
   small-does m t (Ld r l) b h = small-wrote m t (r .0) _ (small-reads p m t (l .0) h) h
   small-does m t (Cas r l e n) b h =
-      then-either Small _ _ _ (small-locked p m t (r .0) (l .0) n b h) (small-wrote m t (r .0) _ (small-reads p m t (l .0) h) h)
+      then-either Small _ _ _ (small-locked p m t (r .0) (l .0) n b h) (then-when Small _ _ (small-wrote m t (r .0) _ (small-reads p m t (l .0) h) h))
   small-does m t (Faa r l v) b h = small-locked p m t (r .0) (l .0) ((reads p m t (l .0) + v) % 256) (omega arith) h
   small-does m t Mf b h = then-when Small _ (to m) h
   small-does m t Sf b h = small-join m t fence tt h

@@ -58,6 +58,12 @@ module _ (xs ns : List ℕ) (v : Buffers xs ns) (t : ℕ) (h : t < 4) where
   fenced-by qs vs ps g =
       ap (λ (b : Bool). b && allClear t qs) (empty-length (bufferOf xs ns t) ∙ ap (λ (n : ℕ). eqb n 0) (buffer-count xs ns v t h))
 
+  -- .. and so whether a step is allowed that waits as a fence does
+  pub fence-allows :
+      (qs : List (List Mark)) (vs : List ℕ) (b : Bool) (f : Machine → Machine) → b ≡ fencedBy ns qs t
+      → Judges qs (buffersOf xs ns) vs (λ m. when (fenced m t) (to (f m))) (allowedIf b)
+  fence-allows qs vs b f e ps g = ap allowedIf (e ∙ sym (fenced-by qs vs ps g)) ∙ allowed-when _ _
+
 -- a queue has an oldest entry, or not
 module _ (m : Machine) (n : ℕ) where
   pub persists-none : (q : List Mark) → length q ≡ 0 → Barred ≡ verdictOf (persists m n q)

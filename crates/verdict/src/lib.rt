@@ -117,7 +117,7 @@ fn may_do<'a>(
         Op::Cas(_, l, e, _) => if read(queued, queues, buffered, buffers, memory, t, l) == e {
             may_lock(queued, queues, buffers, t, l)
         } else {
-            Verdict::Allowed
+            allowed_if(is_fenced(queued, queues, buffers, t))
         },
         Op::Faa(_, l, _) => may_lock(queued, queues, buffers, t, l),
         Op::Mf => allowed_if(is_fenced(queued, queues, buffers, t)),

@@ -24,6 +24,8 @@ fn answer(slip: &str, request: &Request) -> Vec<u8> {
         "" => right,
         // An fo treated as if it waited.
         "fo-waits" if request.kind == Kind::Query => with_text(text.replace("op=fo,", "op=fl,")),
+        // A cas that loses treated as a load, which document 01 says and request 2 takes back.
+        "lost-cas-loads" if request.kind == Kind::Query => with_text(lost_cas_loads(&text)),
         // A total equal to the budget taken for one over it.
         "equal-is-over" if request.kind == Kind::Query => {
             let printed = String::from_utf8_lossy(&right).into_owned();
@@ -56,4 +58,20 @@ fn answer(slip: &str, request: &Request) -> Vec<u8> {
         "ends" if request.kind == Kind::Query && text.contains("op=faa") => std::process::exit(3),
         _ => right,
     }
+}
+
+/// The text with a load for each cas that asks for a value which nothing in it stores.
+fn lost_cas_loads(text: &str) -> String {
+    let stores = |line: &str, value: &str| match line.split(',').collect::<Vec<_>>()[..] {
+        ["op=st", _, stored] | ["op=cas", _, _, _, stored] => stored == value,
+        [op, ..] => op == "op=sr" || op == "op=faa",
+        [] => false,
+    };
+    let changed = |line: &str| match line.split(',').collect::<Vec<_>>()[..] {
+        ["op=cas", reg, loc, asked, _] if asked != "0" && !text.lines().any(|other| stores(other, asked)) => {
+            format!("op=ld,{reg},{loc}")
+        }
+        _ => line.to_string(),
+    };
+    text.split('\n').map(changed).collect::<Vec<_>>().join("\n")
 }

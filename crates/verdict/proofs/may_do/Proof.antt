@@ -1,10 +1,9 @@
 -- `verdict::may_do` meets its contract: each arm is a clause of the definition, and the locations that it names are there, as the
 -- instruction fits. Assumes nothing.
-use mathlib.Core.Path.{ap, sym, _∙_}
+use mathlib.Core.Path.{sym, _∙_}
 use borrow.Author.Tests.{eq-eqb, ne-eqb}
 use Rattle.px86.specs.Step.{either, does}
-use Rattle.verdict.specs.Verdict.{allowedIf}
-use Rattle.verdict.proofs.Judging.{allowed-when, join-room, fenced-by}
+use Rattle.verdict.proofs.Judging.{join-room, fence-allows}
 use borrow.Author.Needs.{needs}
 use Rattle.verdict.proofs.may_do.Statement.{statement}
 use Rattle.verdict.proofs.may_do.Tie as tie
@@ -37,6 +36,12 @@ may-lock-requires c κs =
     let b = c .before .before .before .before .before in
     (b .pre .0, (b .pre .1 .1 .1, (rw (c .before .before .before .o .given .1) at (b .pre .1 .1 .0 .1)) .1))
 
+is-fenced-requires : tie.Need-is-fenced-requires
+is-fenced-requires c κs = search needs
+
+allowed-if-requires : tie.Need-allowed-if-requires
+allowed-if-requires c κs = search needs
+
 enum-known-o-2 : tie.Need-enum-known-o-2
 enum-known-o-2 c = search needs
 
@@ -48,11 +53,11 @@ may-lock-requires-2 c κs =
 enum-told-4 : tie.Need-enum-told-4
 enum-told-4 c = search needs
 
-is-fenced-requires : tie.Need-is-fenced-requires
-is-fenced-requires c κs = search needs
+is-fenced-requires-2 : tie.Need-is-fenced-requires-2
+is-fenced-requires-2 c κs = search needs
 
-allowed-if-requires : tie.Need-allowed-if-requires
-allowed-if-requires c κs = search needs
+allowed-if-requires-2 : tie.Need-allowed-if-requires-2
+allowed-if-requires-2 c κs = search needs
 
 enum-told-5 : tie.Need-enum-told-5
 enum-told-5 c = search needs
@@ -101,7 +106,13 @@ returns-4 c =
 
 returns-5 : tie.Need-returns-5
 unfolding does either
-returns-5 c = λ p ns g. rw (c .before .before .before .o .given .1, ne-eqb _ _ (λ same. c .if1 .left (c .before .read .ensures p ns g ∙ same)))
+returns-5 c =
+    let i = c .before .before in
+    let d = i .before .before .before in
+    let b = d .before .before in
+    λ p ns g.
+    rw (d .o .given .1, ne-eqb _ _ (λ same. i .if1 .left (i .before .read .ensures p ns g ∙ same)))
+    (c .allowed-if .ensures ∙ fence-allows _ _ (b .pre .1 .0) (b .args .t .0) (b .pre .1 .1 .1) _ _ _ _ (c .before .is-fenced .ensures) ns g)
 
 returns-6 : tie.Need-returns-6
 unfolding does
@@ -113,9 +124,7 @@ returns-7 c =
     let b = c .before .before .before .before in
     λ p ns g.
     rw (c .before .before .enum-told4 .given .1)
-    (c .allowed-if .ensures
-    ∙ (ap allowedIf (c .before .is-fenced .ensures ∙ sym (fenced-by _ _ (b .pre .1 .0) (b .args .t .0) (b .pre .1 .1 .1) _ _ ns g))
-    ∙ allowed-when _ _))
+    (c .allowed-if2 .ensures ∙ fence-allows _ _ (b .pre .1 .0) (b .args .t .0) (b .pre .1 .1 .1) _ _ _ _ (c .before .is-fenced2 .ensures) ns g)
 
 returns-8 : tie.Need-returns-8
 unfolding does
@@ -151,11 +160,13 @@ may-do-spec =
     enum-known-o
     read-requires
     may-lock-requires
+    is-fenced-requires
+    allowed-if-requires
     enum-known-o-2
     may-lock-requires-2
     enum-told-4
-    is-fenced-requires
-    allowed-if-requires
+    is-fenced-requires-2
+    allowed-if-requires-2
     enum-told-5
     buffer-room-requires-3
     enum-told-6

@@ -260,7 +260,8 @@ returns-5 c = λ p.
     let v = w .read2 .result in
     let fit = rw (x .1) at (b .pre .1 .0 .1) in
     let read = w .read2 .ensures p (a .places .now) (a .regs) in
-    let loads = cas-loads p (machineOf (state b) (a .regs)) (a .t .0) r (x .0 .1 .0) v read (x .0 .1 .1 .0) (x .0 .1 .1 .1 .0) (c .if1 .left) in
+    let ok = rw (x .1) at (b .pre .1 .1 p (a .regs)) in
+    let loads = cas-loads p (machineOf (state b) (a .regs)) (a .t .0) r (x .0 .1 .0) v read (x .0 .1 .1 .0) (x .0 .1 .1 .1 .0) (c .if1 .left) ok in
     rw (x .1) (takes-load (state b) (b .pre .0) (a .regs) _ _ (a .t) r v (b .pre .1 .0 .0) (fit .0) loads refl)
 
 returns-6 : tie.Need-returns-6
