@@ -224,21 +224,6 @@ fn both_machines_leave_the_same_memories() {
 }
 
 #[test]
-fn the_published_rule_leaves_all_of_them_and_sometimes_more() {
-    let random = &mut Random::new(36);
-    let mut more = 0;
-    for _ in 0..10_000 {
-        let program = small_program(random);
-        let published: BTreeSet<_> = by_views(&program, Lost::Loads).into_iter().collect();
-        let fenced: BTreeSet<_> = by_views(&program, Lost::Fences).into_iter().collect();
-        assert!(fenced.is_subset(&published), "{program:?}");
-        more += usize::from(published.len() > fenced.len());
-    }
-    println!("{more} of 10,000 programs leave more");
-    assert!(more > 0);
-}
-
-#[test]
 fn on_larger_programs_too() {
     let random = &mut Random::new(63);
     let mut compared = 0;
@@ -251,4 +236,40 @@ fn on_larger_programs_too() {
             compared += 1;
         }
     }
+}
+
+/// One thread or two: stores and fo, a cas of a value that is never there, and a note behind it, mostly only where it read 0.
+fn losing_program(random: &mut Random) -> Program {
+    let threads = random.within(1, 2);
+    let thread = |t: usize| {
+        let mut ops = Vec::new();
+        for _ in 0..random.within(1, 3) {
+            let loc = random.below(2) as u8;
+            ops.push(if random.once_in(2) { Op::Store { loc, value: 1 } } else { Op::FlushOpt { loc } });
+        }
+        ops.push(Op::Cas { reg: 0, loc: random.below(2) as u8, expected: 7, new: 7 });
+        if !random.once_in(3) {
+            ops.extend([Op::SkipIfZero { reg: 0, count: 1 }, Op::SkipIfZero { reg: 3, count: 1 }]);
+        }
+        ops.push(Op::Store { loc: 2 + t as u8, value: 1 });
+        ops
+    };
+    Program { locs: 2 + threads, threads: (0..threads).map(thread).collect() }
+}
+
+#[test]
+fn a_cas_that_loses_is_a_fence_and_a_load() {
+    let random = &mut Random::new(2);
+    let mut fewer = 0;
+    for _ in 0..2_000 {
+        let program = losing_program(random);
+        let (_, memories) = Table::new(&program).all();
+        assert_eq!(by_views(&program, Lost::Fences), memories, "{program:?}");
+        // The published rule leaves all of these, and sometimes more.
+        let published = by_views(&program, Lost::Loads);
+        assert!(memories.iter().all(|memory| published.contains(memory)), "{program:?}");
+        fewer += usize::from(memories.len() < published.len());
+    }
+    println!("of 2,000 programs {fewer} leave fewer memories than by the published rule");
+    assert!(fewer > 200);
 }

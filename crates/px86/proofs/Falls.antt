@@ -67,12 +67,18 @@ module _ (p : Prog) where
   unfolding locked work wrote
   locked-falls m t r l v w h = then-when _ _ _ (enqueue-falls _ _ _ w h)
 
+  -- how a step is made that joins no buffer
+  ruleset falling = (then-when, then-either, locked-falls)
+
   pub does-falls : (put : Puts) → Falling put → (m : Machine) (t : ℕ) (o : Op) (w : ℕ) → work p m + 3 ≤ w → Then (Below w) (does p put m t o)
   unfolding Below does work moved wrote
   does-falls put f m t (St l v) w h = f m t _ w (omega arith)
   does-falls put f m t (Sr l r) w h = f m t _ w (omega arith)
   does-falls put f m t (Ld r l) w h = omega arith
-  does-falls put f m t (Cas r l e n) w h = then-either _ _ _ _ (locked-falls m t _ _ _ w (omega arith)) (then-when _ _ _ (omega arith))
+  does-falls put f m t (Cas r l e n) w h =
+      let one : work p m + 1 < w = omega arith in
+      let none : work p m < w = omega arith in
+      search falling
   does-falls put f m t (Faa r l v) w h = locked-falls m t _ _ _ w (omega arith)
   does-falls put f m t Mf w h = then-when _ _ _ (omega arith)
   does-falls put f m t Sf w h = f m t _ w (omega arith)

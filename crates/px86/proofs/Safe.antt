@@ -130,14 +130,17 @@ module _ (p : Prog) where
         whole = omega (arith, h .whole, later (p .threads) (m .places) t n i);
       }
 
+  -- how any step is made
+  ruleset keeps = (safe-when, safe-either, locked-safe, wrote-spare, moved-spare, spare)
+
   pub does-safe : (put : Puts) → ((m : Machine) (t : ℕ) (e : Entry) → Loose t m → Safe (Spare 0) (put m t e)) → (m : Machine) (t : ℕ) (o : Op) → Loose t m → Safe (Spare 0) (does p put m t o)
   unfolding does
   does-safe put f m t (St l v) h = f m t _ h
   does-safe put f m t (Sr l r) h = f m t _ h
-  does-safe put f m t (Ld r l) h = wrote-spare 0 m t _ _ (spare m t h)
-  does-safe put f m t (Cas r l e n) h = safe-either _ _ _ _ (locked-safe m t _ _ _ h) (safe-when _ _ _ (wrote-spare 0 m t _ _ (spare m t h)))
-  does-safe put f m t (Faa r l v) h = locked-safe m t _ _ _ h
-  does-safe put f m t Mf h = safe-when _ _ _ (spare m t h)
+  does-safe put f m t (Ld r l) h = search keeps
+  does-safe put f m t (Cas r l e n) h = search keeps
+  does-safe put f m t (Faa r l v) h = search keeps
+  does-safe put f m t Mf h = search keeps
   does-safe put f m t Sf h = f m t _ h
   does-safe put f m t (Fl l) h = f m t _ h
   does-safe put f m t (Fo l) h = f m t _ h

@@ -85,14 +85,17 @@ module _ (p : Prog) (m : Machine) (noMark : entries (m .queues) ≡ 0) (t : ℕ)
   unfolding locked wrote
   locked-goes r l v = goes-when _ _ fenced-true (enqueue-goes _ noMark _ _)
 
+  -- how any step is made
+  ruleset starts = (goes-when, goes-either, fenced-true, join-goes, locked-goes)
+
   does-goes : (o : Op) → Goes (does p join m t o)
   unfolding does
   does-goes (St l v) = join-goes _
   does-goes (Sr l r) = join-goes _
-  does-goes (Ld r l) = tt
-  does-goes (Cas r l e n) = goes-either _ _ _ (locked-goes _ _ _) (goes-when _ _ fenced-true tt)
-  does-goes (Faa r l v) = locked-goes _ _ _
-  does-goes Mf = goes-when _ _ fenced-true tt
+  does-goes (Ld r l) = search starts
+  does-goes (Cas r l e n) = search starts
+  does-goes (Faa r l v) = search starts
+  does-goes Mf = search starts
   does-goes Sf = join-goes _
   does-goes (Fl l) = join-goes _
   does-goes (Fo l) = join-goes _

@@ -172,13 +172,15 @@ unfolding locked
 small-locked p m t r l v b h = then-when Small _ _ (small-enqueue _ _ (write l v) b (small-wrote m t r _ (small-reads p m t l h) h))
 
 module _ (p : Prog) where
+  -- how any step is made
+  ruleset keeps = (then-when, then-either, small-wrote, small-moved, small-reads, small-locked)
+
   small-does : (m : Machine) (t : ℕ) (o : Op) → Stores o → Small m → Then Small (does p join m t o)
   unfolding does
   small-does m t (St l v) b h = small-join m t (store (l .0) v) b h
   small-does m t (Sr l r) b h = small-join m t (store (l .0) _) (h .registers t (r .0)) h
   small-does m t (Ld r l) b h = small-wrote m t (r .0) _ (small-reads p m t (l .0) h) h
-  small-does m t (Cas r l e n) b h =
-      then-either Small _ _ _ (small-locked p m t (r .0) (l .0) n b h) (then-when Small _ _ (small-wrote m t (r .0) _ (small-reads p m t (l .0) h) h))
+  small-does m t (Cas r l e n) b h = search keeps
   small-does m t (Faa r l v) b h = small-locked p m t (r .0) (l .0) ((reads p m t (l .0) + v) % 256) (omega arith) h
   small-does m t Mf b h = then-when Small _ (to m) h
   small-does m t Sf b h = small-join m t fence tt h

@@ -60,9 +60,9 @@ module _ (xs ns : List ℕ) (v : Buffers xs ns) (t : ℕ) (h : t < 4) where
 
   -- .. and so whether a step is allowed that waits as a fence does
   pub fence-allows :
-      (qs : List (List Mark)) (vs : List ℕ) (b : Bool) (f : Machine → Machine) → b ≡ fencedBy ns qs t
-      → Judges qs (buffersOf xs ns) vs (λ m. when (fenced m t) (to (f m))) (allowedIf b)
-  fence-allows qs vs b f e ps g = ap allowedIf (e ∙ sym (fenced-by qs vs ps g)) ∙ allowed-when _ _
+      (qs : List (List Mark)) (vs ps : List ℕ) (g : File) (b : Bool) (m : Machine) → b ≡ fencedBy ns qs t
+      → allowedIf b ≡ verdictOf (when (fenced (machineWith qs (buffersOf xs ns) vs ps g) t) (to m))
+  fence-allows qs vs ps g b m e = ap allowedIf (e ∙ sym (fenced-by qs vs ps g)) ∙ allowed-when _ m
 
 -- a queue has an oldest entry, or not
 module _ (m : Machine) (n : ℕ) where

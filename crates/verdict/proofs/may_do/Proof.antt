@@ -112,7 +112,7 @@ returns-5 c =
     let b = d .before .before in
     λ p ns g.
     rw (d .o .given .1, ne-eqb _ _ (λ same. i .if1 .left (i .before .read .ensures p ns g ∙ same)))
-    (c .allowed-if .ensures ∙ fence-allows _ _ (b .pre .1 .0) (b .args .t .0) (b .pre .1 .1 .1) _ _ _ _ (c .before .is-fenced .ensures) ns g)
+    (c .allowed-if .ensures ∙ fence-allows _ _ (b .pre .1 .0) (b .args .t .0) (b .pre .1 .1 .1) _ _ ns g _ _ (c .before .is-fenced .ensures))
 
 returns-6 : tie.Need-returns-6
 unfolding does
@@ -124,7 +124,7 @@ returns-7 c =
     let b = c .before .before .before .before in
     λ p ns g.
     rw (c .before .before .enum-told4 .given .1)
-    (c .allowed-if2 .ensures ∙ fence-allows _ _ (b .pre .1 .0) (b .args .t .0) (b .pre .1 .1 .1) _ _ _ _ (c .before .is-fenced2 .ensures) ns g)
+    (c .allowed-if2 .ensures ∙ fence-allows _ _ (b .pre .1 .0) (b .args .t .0) (b .pre .1 .1 .1) _ _ ns g _ _ (c .before .is-fenced2 .ensures))
 
 returns-8 : tie.Need-returns-8
 unfolding does
