@@ -90,7 +90,8 @@ module _ (p : Prog) (m : Machine) (t r l v n : ℕ) (read : v ≡ reads p m t l)
   unfolding wrote
   locked-room = enqueue-room (wrote m t r v) l (write l n) (ap verdictOf (sym locked-is) ∙ h)
 
--- where v is what is read: a load loads it, a compare and swap is a locked write or, where it is allowed, a load, and a fetch and add a locked write
+-- where v is what is read: a load loads it, a compare and swap is a locked write or, where it is allowed, a load, and a fetch and add a locked
+-- write
 module _ (p : Prog) (m : Machine) (t : ℕ) (r : Reg) (l : Loc) (v : ℕ) (read : v ≡ reads p m t (l .0)) where
   pub ld-loads : does p join m t (Ld r l) ≡ to (wrote m t (r .0) v)
   unfolding does
@@ -100,10 +101,13 @@ module _ (p : Prog) (m : Machine) (t : ℕ) (r : Reg) (l : Loc) (v : ℕ) (read 
   unfolding does either
   cas-locks e n same = rw (eq-eqb (reads p m t (l .0)) e (sym read ∙ same))
 
-  pub cas-loads : (e n : ℕ) → (v ≡ e → ⊥) → verdictOf (does p join m t (Cas r l e n)) ≡ Allowed → does p join m t (Cas r l e n) ≡ to (wrote m t (r .0) v)
+  pub cas-loads :
+      (e n : ℕ) → (v ≡ e → ⊥) → verdictOf (does p join m t (Cas r l e n)) ≡ Allowed
+      → does p join m t (Cas r l e n) ≡ to (wrote m t (r .0) v)
   unfolding does either
   cas-loads e n other h =
-      let waits : does p join m t (Cas r l e n) ≡ when (fenced m t) (to (wrote m t (r .0) v)) = rw (ne-eqb (reads p m t (l .0)) e (λ same. other (read ∙ same)), ← read) in
+      let lost = ne-eqb (reads p m t (l .0)) e (λ same. other (read ∙ same)) in
+      let waits : does p join m t (Cas r l e n) ≡ when (fenced m t) (to (wrote m t (r .0) v)) = rw (lost, ← read) in
       waits ∙ when-is (fenced m t) (to (wrote m t (r .0) v)) (ap verdictOf (sym waits) ∙ h)
 
   pub faa-locks : (a n : ℕ) → n ≡ (v + a) % 256 → does p join m t (Faa r l a) ≡ locked p m t (r .0) (l .0) n

@@ -130,8 +130,8 @@ module _ (p : Prog) where
         whole = omega (arith, h .whole, later (p .threads) (m .places) t n i);
       }
 
-  -- how any step is made
-  ruleset keeps = (safe-when, safe-either, locked-safe, wrote-spare, moved-spare, spare)
+  -- how a step is made that joins no buffer
+  ruleset keeps = (safe-when, safe-either, locked-safe, wrote-spare, spare)
 
   pub does-safe : (put : Puts) → ((m : Machine) (t : ℕ) (e : Entry) → Loose t m → Safe (Spare 0) (put m t e)) → (m : Machine) (t : ℕ) (o : Op) → Loose t m → Safe (Spare 0) (does p put m t o)
   unfolding does

@@ -55,14 +55,14 @@ slips =
     ∷ follows ((fo 1 ∷ []) ∷ (fo 1 ∷ mf ∷ []) ∷ []) 2 (0 ∷ 16 ∷ 1 ∷ 24 ∷ 1 ∷ []) (refused (Barred 4))
     -- faa waits for its own fo
     ∷ follows ((fo 0 ∷ faa 0 0 1 ∷ []) ∷ []) 1 (0 ∷ 16 ∷ 0 ∷ []) (refused (Barred 2))
-    -- a cas that loses waits for the buffer, though it is its own store that makes it lose; then it loads and stores nothing
+    -- a cas that loses waits for the buffer, though it is its own store that makes it lose; with the write queued it loads, and stores nothing
     ∷ follows ((st 0 5 ∷ cas 1 0 0 9 ∷ []) ∷ []) 1 (0 ∷ 0 ∷ []) (refused (Barred 1))
     ∷ follows ((st 0 5 ∷ cas 1 0 0 9 ∷ []) ∷ []) 1 (0 ∷ 16 ∷ 0 ∷ 64 ∷ []) (gives (5 ∷ []) ((0 ∷ 5 ∷ []) ∷ []) (2 ∷ []))
     ∷ follows ((st 0 5 ∷ cas 1 0 0 9 ∷ []) ∷ []) 1 (0 ∷ 16 ∷ 0 ∷ 64 ∷ 64 ∷ []) (refused (Barred 4))
-    -- .. for its own fo, and for no write in a queue
+    -- .. it waits for its own fo, until that has gone
     ∷ follows ((fo 1 ∷ cas 0 0 5 9 ∷ []) ∷ []) 2 (0 ∷ 16 ∷ 0 ∷ []) (refused (Barred 2))
     ∷ follows ((fo 1 ∷ cas 0 0 5 9 ∷ []) ∷ []) 2 (0 ∷ 16 ∷ 65 ∷ 0 ∷ []) (gives [] [] (2 ∷ []))
-    -- .. and not for another thread's fo, nor for its buffer
+    -- .. and not for another thread's fo, nor for that thread's buffer
     ∷ follows ((st 1 7 ∷ fo 0 ∷ []) ∷ (cas 0 0 5 9 ∷ []) ∷ []) 2 (0 ∷ 0 ∷ 17 ∷ 1 ∷ []) (gives [] [] (2 ∷ 1 ∷ []))
     -- bz looks at its own register, and passes over as many as it says
     ∷ follows ((st 0 1 ∷ ld 0 0 ∷ bz 1 2 ∷ mf ∷ mf ∷ sf ∷ []) ∷ []) 1 (0 ∷ 0 ∷ 0 ∷ []) (gives [] ((1 ∷ []) ∷ []) (5 ∷ []))

@@ -85,8 +85,8 @@ module _ (p : Prog) (m : Machine) (noMark : entries (m .queues) ≡ 0) (t : ℕ)
   unfolding locked wrote
   locked-goes r l v = goes-when _ _ fenced-true (enqueue-goes _ noMark _ _)
 
-  -- how any step is made
-  ruleset starts = (goes-when, goes-either, fenced-true, join-goes, locked-goes)
+  -- how a step is made that joins no buffer
+  ruleset starts = (goes-when, goes-either, fenced-true, locked-goes)
 
   does-goes : (o : Op) → Goes (does p join m t o)
   unfolding does
@@ -105,12 +105,12 @@ pub next-goes : (p : Prog) (m : Machine) (t : ℕ) (o : Op) → entries (m .queu
 unfolding next moved
 next-goes p m t o h b = does-goes p _ h t b o
 
--- mf, and every cas "as faa does", is not allowed before its thread's buffer is empty and none of its fo entries is queued
 both-barred : (b : Bool) → either b barred barred ≡ barred
 unfolding either
 both-barred true = refl
 both-barred false = refl
 
+-- mf, faa and every cas are not allowed while the thread's buffer holds an entry, or a queue an fo entry of the thread
 module _ (p : Prog) (put : Puts) (m : Machine) (t : ℕ) (h : fenced m t ≡ false) where
   pub mf-waits : next p put m t (some Mf) ≡ barred
   unfolding next moved does fenced when

@@ -172,8 +172,8 @@ unfolding locked
 small-locked p m t r l v b h = then-when Small _ _ (small-enqueue _ _ (write l v) b (small-wrote m t r _ (small-reads p m t l h) h))
 
 module _ (p : Prog) where
-  -- how any step is made
-  ruleset keeps = (then-when, then-either, small-wrote, small-moved, small-reads, small-locked)
+  -- how a step is made that joins no buffer
+  ruleset keeps = (then-when, then-either, small-wrote, small-reads, small-locked)
 
   small-does : (m : Machine) (t : ℕ) (o : Op) → Stores o → Small m → Then Small (does p join m t o)
   unfolding does
