@@ -1,4 +1,4 @@
-//! The bench cases of document 01, 1 to 14, the two that are only run, and its example text.
+//! The bench cases of document 01, 1 to 14, of which request 2 changed the 13th, the two that are only run, and its example text.
 
 mod common;
 use common::{program, question, text};

@@ -1,5 +1,5 @@
 -- What a step waits for: with empty queues an oldest entry may leave, and with an empty buffer of its own besides a thread may do any
--- instruction. Assumes nothing.
+-- instruction; mf and the locked operations are not allowed before. Assumes nothing.
 use mathlib.Core.Path.{_≡_, refl, ap, _∙_}
 use Prim.Native.Nat.{ℕ}
 use native.Mathlib.Omega.{arith}

@@ -1,5 +1,5 @@
--- One step of the machine: document 01, "The machine". Each clause bears the name of the slide's rule that it is. Assumes nothing: these are
--- definitions.
+-- One step of the machine: document 01, "The machine", with request 2 of document 02 for cas. Each clause bears the name of the slide's rule
+-- that it is. Assumes nothing: these are definitions.
 use Prim.Native.Nat.{ℕ, suc, _+_, _-_, _*_, _/_, _%_}
 use mathlib.Core.Bool.{Bool, true, false, not, _&&_}
 use mathlib.Core.Option.{Option, none, some}
