@@ -1,12 +1,23 @@
 // The proved side of the comparison: takes requests of the harness on standard input, up to 500, and writes a response for each
 // (harness/src/protocol.rs says how they look).
+ghost use mathlib.Core.Path.{_≡_};
 ghost use Prim.Native.Nat.{_≤_};
-use follow::Outcome;
-use follow::follow;
+ghost use lib.ListN.{length};
+ghost use Rattle.px86.specs.Ask.{followed as followedIn};
+ghost use Rattle.reach.specs.Reply.{reply};
+ghost use Rattle.answers.specs.Combined.{wholly};
+use legality::legality;
 use libc::STDIN_FILENO;
 use libc::STDOUT_FILENO;
 use notice::notice;
+use program::Program;
 use program::Question;
+use px86::Legality;
+use px86::Refusal;
+use reach::Outcome;
+use reach::Reached;
+use reach::nothing;
+use reach::reach;
 use report::respond;
 use text::Verdict;
 use text::read;
@@ -120,31 +131,99 @@ fn write_again(q: Question, n: usize) {
     put_first(&buffer, n);
 }
 
+// A number as four bytes, the lowest first.
+fn put_wide(n: u64) {
+    put_number((n % 65536) as usize);
+    put_number((n / 65536 % 65536) as usize);
+}
+
+// Refused, with what the refusal returns.
+fn put_refusal(x: Refusal) {
+    put_number(6);
+    let head = [82, x.number()];
+    put(&head);
+    put_wide(x.value());
+}
+
+// The memory, the registers and the places.
+fn put_state(r: Reached) {
+    let memory = r.memory;
+    put(&memory);
+    let registers = r.registers;
+    put(&registers);
+    let places = r.places;
+    put(&places);
+}
+
+// Document 01's answer to following a list of codes, built from both doors: the state after all of them, or the refusal.
+fn followed(p: Program, codes: &[u8]) -> Reached
+    ensures { λ r. ⌜ r ≡ reply (wholly (length (now (codes .entry))) (followedIn p (now (codes .entry)))) ⌝ }
+{
+    let l = legality(p, codes);
+    match l {
+        Legality::Legal => reach(p, codes),
+        Legality::Stops(i) => nothing(Refusal::Barred(i)),
+        Legality::Refused(x) => nothing(x),
+    }
+}
+
 // Where the codes lead.
-fn follow_codes(q: Question, codes: &[u8]) {
-    let p = q.program;
-    let f = follow(p, codes);
-    let o = f.outcome;
+fn follow_codes(p: Program, codes: &[u8]) {
+    let r = followed(p, codes);
+    let o = r.outcome;
     match o {
-        Outcome::After => {
+        Outcome::After(_) => {
             put_number(27);
             put(b"F");
-            let memory = f.memory;
-            put(&memory);
-            let registers = f.registers;
-            put(&registers);
-            let places = f.places;
-            put(&places);
+            put_state(r);
         }
-        Outcome::Refused(x) => {
-            put_number(6);
-            let head = [82, x.number()];
-            put(&head);
-            let v = x.value();
-            put_number((v % 65536) as usize);
-            put_number((v / 65536 % 65536) as usize);
-        }
+        Outcome::Refused(x) => put_refusal(x),
     }
+}
+
+// Whether the codes are legal.
+fn judge_codes(p: Program, codes: &[u8]) {
+    let l = legality(p, codes);
+    match l {
+        Legality::Legal => {
+            put_number(1);
+            put(b"L");
+        }
+        Legality::Stops(i) => {
+            put_number(5);
+            put(b"B");
+            put_wide(i as u64);
+        }
+        Legality::Refused(x) => put_refusal(x),
+    }
+}
+
+// How far the codes reach.
+fn reach_codes(p: Program, codes: &[u8]) {
+    let r = reach(p, codes);
+    let o = r.outcome;
+    match o {
+        Outcome::After(n) => {
+            put_number(31);
+            put(b"S");
+            put_wide(n as u64);
+            put_state(r);
+        }
+        Outcome::Refused(x) => put_refusal(x),
+    }
+}
+
+// The codes, for a request of this kind.
+fn answer_codes(kind: u8, p: Program, codes: &[u8]) {
+    if kind == 108 {
+        judge_codes(p, codes);
+        return;
+    }
+    if kind == 115 {
+        reach_codes(p, codes);
+        return;
+    }
+    follow_codes(p, codes);
 }
 
 // A request of this kind, whose text and codes are the first n and m bytes, which are there.
@@ -174,7 +253,8 @@ fn respond_to(kind: u8, lent: usize, text: &[u8], n: usize, codes: &[u8], m: usi
             if kind == 119 {
                 write_again(q, lent);
             } else {
-                follow_codes(q, &codes[..m]);
+                let p = q.program;
+                answer_codes(kind, p, &codes[..m]);
             }
         }
     }

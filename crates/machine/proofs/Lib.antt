@@ -4,4 +4,5 @@ pub mod Codes
 pub mod Moving
 pub mod Going
 pub mod Taking
+pub mod Turning
 pub mod Unique

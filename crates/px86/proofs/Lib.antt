@@ -24,7 +24,10 @@ pub mod One
 pub mod Done
 pub mod Follow
 pub mod Told
+pub mod Apart
+pub mod Combined
 pub mod Refused
+pub mod LegalRuns
 pub mod Slots
 pub mod Codes
 pub mod Waits

@@ -19,6 +19,14 @@ pub enum Refusal {
     NoRoom,
 }
 
+// Whether every code of a list is allowed in its turn.
+pub enum Legality {
+    Legal,
+    // the code at this index is the first that is not allowed
+    Stops(usize),
+    Refused(Refusal),
+}
+
 impl Refusal {
     // Document 01's number of a refusal.
     pub fn number(self) -> u8

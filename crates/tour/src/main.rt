@@ -1,11 +1,15 @@
-// Shows the machine at work: a record and its flag (case 10 of document 01), step by step, and what is refused.
-use follow::Outcome;
-use follow::follow;
+// Shows the machine at work: a record and its flag (case 10 of document 01), step by step,
+// and how far a list goes that is not allowed.
+use legality::legality;
 use libc::STDOUT_FILENO;
 use names::Loc;
 use names::Thread;
 use program::Op;
 use program::Program;
+use px86::Legality;
+use px86::Refusal;
+use reach::Outcome;
+use reach::reach;
 
 // Thread 0: the record is stored to location 0 and flushed without waiting, and the flag is stored to location 1.
 fn record_and_flag() -> Program {
@@ -20,26 +24,40 @@ fn print_byte(n: u8) {
     io::print_decimal(STDOUT_FILENO, n as u64);
 }
 
-// A line: what a power cut leaves after these codes, or why there is no such state.
+fn print_refusal(x: Refusal) {
+    io::write_all(STDOUT_FILENO, b" refused number=");
+    print_byte(x.number());
+}
+
+// A line: how many codes there are, the first that is not allowed if there is one, how many of them lead how far, and what a power cut leaves there.
 fn show(codes: &[u8]) {
-    let f = follow(record_and_flag(), codes);
+    let p = record_and_flag();
     io::write_all(STDOUT_FILENO, b"codes=");
     io::print_decimal(STDOUT_FILENO, codes.len() as u64);
-    let memory = f.memory;
-    let o = f.outcome;
+    let l = legality(p, codes);
+    match l {
+        Legality::Legal => {
+            io::write_all(STDOUT_FILENO, b" legal");
+        }
+        Legality::Stops(i) => {
+            io::write_all(STDOUT_FILENO, b" index=");
+            io::print_decimal(STDOUT_FILENO, i as u64);
+        }
+        Legality::Refused(x) => print_refusal(x),
+    }
+    let r = reach(p, codes);
+    let memory = r.memory;
+    let o = r.outcome;
     match o {
-        Outcome::After => {
+        Outcome::After(n) => {
+            io::write_all(STDOUT_FILENO, b" length=");
+            io::print_decimal(STDOUT_FILENO, n as u64);
             io::write_all(STDOUT_FILENO, b" memory=");
             print_byte(memory[0]);
             io::write_all(STDOUT_FILENO, b",");
             print_byte(memory[1]);
         }
-        Outcome::Refused(x) => {
-            io::write_all(STDOUT_FILENO, b" refused number=");
-            print_byte(x.number());
-            io::write_all(STDOUT_FILENO, b" index=");
-            io::print_decimal(STDOUT_FILENO, x.value());
-        }
+        Outcome::Refused(x) => print_refusal(x),
     }
     io::write_all(STDOUT_FILENO, b"\n");
 }

@@ -53,11 +53,11 @@ enum-told c = search needs
 write-again-requires : tie.Need-write-again-requires
 write-again-requires c κs = search needs
 
-slice-aggregate-follow-codes : tie.Need-slice-aggregate-follow-codes
-slice-aggregate-follow-codes c = sym (length-take-le _ _ (c .before .before .before .before .before .before .before .before .before .if2 .left))
+slice-aggregate-answer-codes : tie.Need-slice-aggregate-answer-codes
+slice-aggregate-answer-codes c = sym (length-take-le _ _ (c .before .before .before .before .before .before .before .before .before .before .if2 .left))
 
-follow-codes-requires : tie.Need-follow-codes-requires
-follow-codes-requires c κs = search needs
+answer-codes-requires : tie.Need-answer-codes-requires
+answer-codes-requires c κs = search needs
 
 returns-5 : tie.Need-returns-5
 returns-5 c = search needs
@@ -88,8 +88,8 @@ respond-to-spec =
     put-refused-requires
     enum-told
     write-again-requires
-    slice-aggregate-follow-codes
-    follow-codes-requires
+    slice-aggregate-answer-codes
+    answer-codes-requires
     returns-5
     returns-6
     returns-7)
