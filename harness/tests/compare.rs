@@ -30,7 +30,8 @@ fn the_simulator_agrees_with_itself() {
     let bench = ["q all", "q reached", "q never", "q over", "f followed", "f refused 10", "w written", "w refused 9"];
     let mend =
         ["m unchanged", "m cr", "m blank", "m zero", "m lf", "m cr blank zero lf", "m text alone", "m refused 9"];
-    for sort in bench.into_iter().chain(mend).chain(["m refused 12"]) {
+    let split = ["l legal", "l not allowed", "l text refused 2", "s of the whole list", "s of a beginning"];
+    for sort in bench.into_iter().chain(split).chain(mend).chain(["m refused 12", "s text refused 2"]) {
         assert!(output.contains(&format!("  {sort}: ")), "{sort} was never seen");
     }
 }
@@ -44,6 +45,12 @@ fn each_slip_is_found_and_made_small() {
         ("carriage-return-read", 1, "\\r"),
         ("writer-clears", 0, "R 9 170"),
         ("index-from-one", 0, "R 10 0 0 0 0"),
+        ("legality-from-one", 0, "B 0 0 0 0"),
+        ("last-code-unseen", 0, "B 0 0 0 0"),
+        ("no-sort-passed", 0, "B 0 0 0 0"),
+        ("length-with-the-bad-code", 0, "S 0 0 0 0"),
+        ("state-from-start", 1, "S 1 0 0 0"),
+        ("length-of-the-list", 0, "S 0 0 0 0"),
         ("mender-feeds-nothing", 0, "number=9"),
         ("mender-clears", 0, "lent: 170"),
         ("mender-longest", 0, "number=12"),
