@@ -3,12 +3,14 @@
 mod codes;
 mod damage;
 mod forum;
+mod inputs;
 mod programs;
 mod questions;
 
 use crate::protocol::{Kind, Request};
 use crate::random::Random;
 
+pub use inputs::{fixed_inputs, input, large_input};
 pub use programs::{any_program, small_program};
 
 /// Walks of the comparison end behind this many runs.

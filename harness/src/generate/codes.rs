@@ -83,7 +83,7 @@ pub fn codes_for(random: &mut Random, program: &Program) -> Vec<u8> {
 }
 
 /// Allowed codes, at most so many, and the state behind them. Some walks like one sort of step better than others.
-fn allowed_walk(random: &mut Random, program: &Program, length: usize) -> (Vec<u8>, State) {
+pub fn allowed_walk(random: &mut Random, program: &Program, length: usize) -> (Vec<u8>, State) {
     let taste = random.below(6);
     let strict = random.once_in(2);
     let mut state = State::start(program);
