@@ -3,11 +3,13 @@
 
 mod common;
 use common::program;
+use harness::ask::{ask, Answer};
 use harness::compare::PART;
 use harness::follow::{follow, legality, longest, Beginning, NotFollowed, Unanswered};
 use harness::generate::{request, Family};
 use harness::machine::LAST_CODE;
-use harness::program::{Op, Program};
+use harness::print::BENCH_LENDS;
+use harness::program::{Op, Program, Want};
 use harness::protocol::{Kind, Request};
 use harness::text::read;
 use std::collections::BTreeMap;
@@ -60,6 +62,25 @@ fn a_shorter_beginning_is_no_other() {
             assert_eq!(legality(&program, &codes[..end]), Ok(told), "list {number}, its first {end}");
         }
     }
+}
+
+#[test]
+fn a_run_that_is_asked_for_is_legal_and_leaves_its_memory() {
+    let mut reached = 0;
+    for number in 0..2_000 {
+        let asked = request(Family::Questions, Family::Questions.seed(number));
+        let question = read(&asked.text).expect("a legal text");
+        let mut lent = [0; BENCH_LENDS];
+        let (Answer::Reached { length, .. }, Want::One(memory)) = (ask(&question, &mut lent), &question.want) else {
+            continue;
+        };
+        let run = &lent[..length];
+        assert_eq!(legality(&question.program, run), Ok(None), "question {number}");
+        let whole = longest(&question.program, run).expect("no refusal");
+        assert_eq!((whole.length, &whole.after.memory[..memory.len()]), (length, &memory[..]), "question {number}");
+        reached += 1;
+    }
+    assert!(reached > 500, "{reached}");
 }
 
 #[test]

@@ -191,7 +191,7 @@ fn long_lines(length: usize) -> Vec<Vec<u8>> {
     let filled = |front: &[u8], filler: &[u8]| -> Vec<u8> {
         front.iter().chain(filler.iter().cycle()).copied().take(length).collect()
     };
-    let even = length % 2 == 0;
+    let even = length.is_multiple_of(2);
     vec![
         filled(if even { b"run=16" } else { b"run=0" }, b",0"),
         filled(b"run=", b"9"),
