@@ -38,7 +38,7 @@ fn the_simulator_agrees_with_itself() {
 
 #[test]
 fn each_slip_is_found_and_made_small() {
-    for (slip, most_ops, says) in [
+    let slips = [
         ("fo-waits", 1, "fo,0"),
         ("lost-cas-loads", 2, "cas,"),
         ("equal-is-over", 0, "answer=over"),
@@ -55,14 +55,19 @@ fn each_slip_is_found_and_made_small() {
         ("mender-clears", 0, "lent: 170"),
         ("mender-longest", 0, "number=12"),
         ("ends", 1, "ended without a response"),
-    ] {
-        let (output, ended_well) = compared(Some(slip));
-        assert!(!ended_well, "{slip}");
-        assert!(!output.lines().last().expect("a last line").ends_with(" 0 differ"), "{slip}");
-        let (shown, ops) = first_difference(&output);
-        assert!(ops.len() <= most_ops, "{slip}: {shown:#?}");
-        assert!(shown.iter().any(|line| line.contains(says)), "{slip}: {shown:#?}");
-    }
+    ];
+    std::thread::scope(|scope| {
+        for (slip, most_ops, says) in slips {
+            scope.spawn(move || {
+                let (output, ended_well) = compared(Some(slip));
+                assert!(!ended_well, "{slip}");
+                assert!(!output.lines().last().expect("a last line").ends_with(" 0 differ"), "{slip}");
+                let (shown, ops) = first_difference(&output);
+                assert!(ops.len() <= most_ops, "{slip}: {shown:#?}");
+                assert!(shown.iter().any(|line| line.contains(says)), "{slip}: {shown:#?}");
+            });
+        }
+    });
 }
 
 #[test]

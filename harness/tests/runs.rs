@@ -63,9 +63,23 @@ fn a_command_that_cannot_be_started_is_no_agreement() {
         Command::new(env!("CARGO_BIN_EXE_runs")).args(arguments).output().expect("runs runs").status.code()
     };
     assert_eq!(runs(&["--part", "--", "no/such/program"]), Some(1));
-    for wrong in [&[][..], &["--part"], &["--part", "--"], &["--all", "--", "true"]] {
+    for wrong in [&[][..], &["--part"], &["--part", "--"], &["--all", "--", "true"], &["seed"]] {
         assert_eq!(runs(wrong), Some(2));
     }
+}
+
+#[test]
+fn an_input_is_found_again_by_its_name() {
+    let written = |name: &str| {
+        let runs = Command::new(env!("CARGO_BIN_EXE_runs")).args(name.split(' ')).output().expect("runs runs");
+        (runs.status.success(), runs.stdout)
+    };
+    for (_, inputs) in &inputs(true).whole[..2] {
+        for Input { name, bytes } in inputs.iter().step_by(20) {
+            assert_eq!(written(name), (true, bytes.clone()), "{name}");
+        }
+    }
+    assert_eq!(written("number 100000"), (false, Vec::new()));
 }
 
 /// The answered runs of some inputs.
