@@ -114,7 +114,7 @@ fn show(server: &Server, request: &Request, out: &mut impl Write) -> io::Result<
     for line in request.text.split_inclusive(|&byte| byte == b'\n') {
         writeln!(out, "  | {}", line.escape_ascii())?;
     }
-    if matches!(request.kind, Kind::Follow | Kind::Mend) {
+    if !matches!(request.kind, Kind::Query | Kind::Write) {
         writeln!(out, "codes={}", crate::text::with_commas(&request.codes))?;
     }
     writeln!(out, "simulator: {}", shown(request, &reply(request)))?;
@@ -132,7 +132,7 @@ fn shown(request: &Request, response: &[u8]) -> String {
             let (printed, lent) = response.split_at(response.len().saturating_sub(usize::from(request.lent)));
             format!("{} | lent: {}", printed.escape_ascii(), numbers(lent))
         }
-        (Kind::Write | Kind::Follow, Some((letter, bytes))) => {
+        (Kind::Write | Kind::Follow | Kind::Legality | Kind::State, Some((letter, bytes))) => {
             format!("{} {}", letter.escape_ascii(), numbers(bytes))
         }
         _ => response.escape_ascii().to_string(),

@@ -1,4 +1,5 @@
-//! Following a list of codes: the memory, the registers and the places after it.
+//! A list of codes: the index of the first one that is not allowed; the state after the longest allowed beginning; and both at once, as
+//! document 01 has it. Each of the three walks the list by itself, so that the tests can hold them beside each other.
 
 use crate::machine::{step, State, Stop};
 use crate::program::{Program, MAX_LOCS, MAX_THREADS, REGISTERS};
@@ -9,6 +10,18 @@ pub struct Followed {
     pub memory: [u8; MAX_LOCS],
     pub registers: [[u8; REGISTERS]; MAX_THREADS],
     pub places: [u8; MAX_THREADS],
+}
+
+impl Followed {
+    fn of(program: &Program, state: &State) -> Followed {
+        let mut followed = Followed::default();
+        followed.memory[..program.locs].copy_from_slice(&state.memory);
+        for (t, thread) in state.threads.iter().enumerate() {
+            followed.registers[t] = thread.registers;
+            followed.places[t] = thread.place as u8;
+        }
+        followed
+    }
 }
 
 /// A refusal: 6, 11, or 10 with the index of the code.
@@ -30,11 +43,62 @@ pub fn follow(program: &Program, codes: &[u8]) -> Result<Followed, NotFollowed> 
             Stop::NoRoom => NotFollowed::NoRoom,
         })?;
     }
-    let mut followed = Followed::default();
-    followed.memory[..program.locs].copy_from_slice(&state.memory);
-    for (t, thread) in state.threads.iter().enumerate() {
-        followed.registers[t] = thread.registers;
-        followed.places[t] = thread.place as u8;
+    Ok(Followed::of(program, &state))
+}
+
+/// A refusal of what `follow` is split into: 6, or 11 if that is met before any code that is not allowed.
+#[derive(Clone, Copy, Debug, PartialEq, Eq)]
+pub enum Unanswered {
+    BreaksLimit,
+    NoRoom,
+}
+
+impl Unanswered {
+    pub fn number(self) -> u8 {
+        match self {
+            Unanswered::BreaksLimit => 6,
+            Unanswered::NoRoom => 11,
+        }
     }
-    Ok(followed)
+}
+
+/// The index of the first code that is not allowed, or that there is none.
+pub fn legality(program: &Program, codes: &[u8]) -> Result<Option<usize>, Unanswered> {
+    if !program.keeps_limits() {
+        return Err(Unanswered::BreaksLimit);
+    }
+    let mut state = State::start(program);
+    for (index, &code) in codes.iter().enumerate() {
+        match step(program, &state, code) {
+            Ok(next) => state = next,
+            Err(Stop::NotAllowed) => return Ok(Some(index)),
+            Err(Stop::NoRoom) => return Err(Unanswered::NoRoom),
+        }
+    }
+    Ok(None)
+}
+
+/// The longest allowed beginning of a list, by its length, and what stands after it.
+#[derive(Clone, Copy, Debug, PartialEq, Eq)]
+pub struct Beginning {
+    pub length: usize,
+    pub after: Followed,
+}
+
+/// The longest allowed beginning: it is never longer than the list, and nothing behind it is looked at but one code.
+pub fn longest(program: &Program, codes: &[u8]) -> Result<Beginning, Unanswered> {
+    if !program.keeps_limits() {
+        return Err(Unanswered::BreaksLimit);
+    }
+    let mut state = State::start(program);
+    let mut length = 0;
+    while length < codes.len() {
+        state = match step(program, &state, codes[length]) {
+            Ok(next) => next,
+            Err(Stop::NotAllowed) => break,
+            Err(Stop::NoRoom) => return Err(Unanswered::NoRoom),
+        };
+        length += 1;
+    }
+    Ok(Beginning { length, after: Followed::of(program, &state) })
 }

@@ -3,12 +3,14 @@
 mod codes;
 mod damage;
 mod forum;
+mod inputs;
 mod programs;
 mod questions;
 
-use crate::protocol::Request;
+use crate::protocol::{Kind, Request};
 use crate::random::Random;
 
+pub use inputs::{fixed_inputs, input, large_input};
 pub use programs::{any_program, small_program};
 
 /// Walks of the comparison end behind this many runs.
@@ -26,16 +28,30 @@ pub enum Family {
     Written,
     /// Texts from the forum, mended.
     Forum,
+    /// The same lists of codes: which of them is the first that is not allowed.
+    Legality,
+    /// The same lists of codes: the state after the longest allowed beginning.
+    States,
 }
 
 impl Family {
-    pub const ALL: [Family; 5] = [Family::Questions, Family::Damaged, Family::Codes, Family::Written, Family::Forum];
+    pub const ALL: [Family; 7] = [
+        Family::Questions,
+        Family::Damaged,
+        Family::Codes,
+        Family::Legality,
+        Family::States,
+        Family::Written,
+        Family::Forum,
+    ];
 
     pub fn name(self) -> &'static str {
         match self {
             Family::Questions => "questions",
             Family::Damaged => "damaged texts",
             Family::Codes => "lists of codes",
+            Family::Legality => "lists of codes, legality",
+            Family::States => "lists of codes, state",
             Family::Written => "written texts",
             Family::Forum => "texts from the forum",
         }
@@ -44,14 +60,18 @@ impl Family {
     /// How many requests a whole comparison makes.
     pub fn count(self) -> u64 {
         match self {
-            Family::Questions | Family::Damaged | Family::Codes | Family::Forum => 24_000,
             Family::Written => 6_000,
+            _ => 24_000,
         }
     }
 
-    /// The seed of one of its requests.
+    /// The seed of one of its requests. The three families of lists have the same seeds, and so the same lists.
     pub fn seed(self, index: u64) -> u64 {
-        (self as u64 + 1) << 32 | index
+        let family = match self {
+            Family::Legality | Family::States => Family::Codes,
+            other => other,
+        };
+        (family as u64 + 1) << 32 | index
     }
 }
 
@@ -61,7 +81,9 @@ pub fn request(family: Family, seed: u64) -> Request {
     match family {
         Family::Questions => questions::asked(random),
         Family::Damaged => damage::damaged(random),
-        Family::Codes => codes::followed(random),
+        Family::Codes => codes::listed(random, Kind::Follow),
+        Family::Legality => codes::listed(random, Kind::Legality),
+        Family::States => codes::listed(random, Kind::State),
         Family::Written => questions::written(random),
         Family::Forum => forum::mended(random).0,
     }

@@ -19,6 +19,10 @@ pub enum Kind {
     Write,
     /// The codes, followed.
     Follow,
+    /// The index of the first of the codes that is not allowed, or that there is none.
+    Legality,
+    /// The state after the longest allowed beginning of the codes, with its length.
+    State,
     /// What mend prints for the text, and the lent buffer behind it.
     Mend,
 }
@@ -29,6 +33,8 @@ impl Kind {
             Kind::Query => b'q',
             Kind::Write => b'w',
             Kind::Follow => b'f',
+            Kind::Legality => b'l',
+            Kind::State => b's',
             Kind::Mend => b'm',
         }
     }
@@ -38,6 +44,8 @@ impl Kind {
             b'q' => Some(Kind::Query),
             b'w' => Some(Kind::Write),
             b'f' => Some(Kind::Follow),
+            b'l' => Some(Kind::Legality),
+            b's' => Some(Kind::State),
             b'm' => Some(Kind::Mend),
             _ => None,
         }
@@ -50,7 +58,7 @@ pub struct Request {
     /// At most 4,096.
     pub lent: u16,
     pub text: Vec<u8>,
-    /// Follow's list; for Mend one byte, any, if the text is wanted alone. Otherwise empty.
+    /// The list for Follow, Legality and State; for Mend one byte, any, if the text is wanted alone. Otherwise empty.
     pub codes: Vec<u8>,
 }
 

@@ -1,6 +1,6 @@
 //! The response that a request must get, by the simulator.
 
-use crate::follow::{follow, NotFollowed};
+use crate::follow::{follow, legality, longest, Beginning, Followed, NotFollowed};
 use crate::mend::{mend, print_mending, Change};
 use crate::print::print;
 use crate::protocol::{Kind, Request};
@@ -15,6 +15,8 @@ pub fn reply(request: &Request) -> Vec<u8> {
         Kind::Query => print(&request.text, usize::from(request.lent)).into_bytes(),
         Kind::Write => reply_write(request),
         Kind::Follow => reply_follow(request),
+        Kind::Legality => reply_legality(request),
+        Kind::State => reply_state(request),
         Kind::Mend => reply_mend(request),
     }
 }
@@ -45,20 +47,49 @@ fn reply_follow(request: &Request) -> Vec<u8> {
         Err(refusal) => return refused_text(refusal),
     };
     let (number, index) = match follow(&question.program, &request.codes) {
-        Ok(followed) => {
-            let mut response = vec![b'F'];
-            response.extend(followed.memory);
-            response.extend(followed.registers.iter().flatten());
-            response.extend(followed.places);
-            return response;
-        }
+        Ok(followed) => return [&b"F"[..], &bytes_of(&followed)].concat(),
         Err(NotFollowed::BreaksLimit) => (6, 0),
         Err(NotFollowed::NoRoom) => (11, 0),
-        Err(NotFollowed::NotAllowed { index }) => (10, index as u32),
+        Err(NotFollowed::NotAllowed { index }) => (10, index),
     };
-    let mut response = vec![b'R', number];
-    response.extend(index.to_le_bytes());
-    response
+    refused_list(number, index)
+}
+
+fn reply_legality(request: &Request) -> Vec<u8> {
+    let question = match read(&request.text) {
+        Ok(question) => question,
+        Err(refusal) => return refused_text(refusal),
+    };
+    match legality(&question.program, &request.codes) {
+        Ok(None) => vec![b'L'],
+        Ok(Some(index)) => with_number(b"B", index),
+        Err(unanswered) => refused_list(unanswered.number(), 0),
+    }
+}
+
+fn reply_state(request: &Request) -> Vec<u8> {
+    let question = match read(&request.text) {
+        Ok(question) => question,
+        Err(refusal) => return refused_text(refusal),
+    };
+    match longest(&question.program, &request.codes) {
+        Ok(Beginning { length, after }) => [with_number(b"S", length), bytes_of(&after)].concat(),
+        Err(unanswered) => refused_list(unanswered.number(), 0),
+    }
+}
+
+/// The memory, the registers by thread, the places.
+fn bytes_of(followed: &Followed) -> Vec<u8> {
+    [&followed.memory[..], followed.registers.as_flattened(), &followed.places].concat()
+}
+
+/// Bytes and behind them an index or a length, 4 bytes, lowest first.
+fn with_number(bytes: &[u8], number: usize) -> Vec<u8> {
+    [bytes, &(number as u32).to_le_bytes()].concat()
+}
+
+fn refused_list(number: u8, index: usize) -> Vec<u8> {
+    with_number(&[b'R', number], index)
 }
 
 fn reply_mend(request: &Request) -> Vec<u8> {
@@ -99,6 +130,12 @@ pub fn sort_of(request: &Request, response: &[u8]) -> String {
         (_, [b'R', number, ..]) => format!("refused {number}"),
         (_, [b'W', ..]) => "written".to_string(),
         (_, [b'F', ..]) => "followed".to_string(),
+        (_, [b'L']) => "legal".to_string(),
+        (_, [b'B', ..]) => "not allowed".to_string(),
+        (_, [b'S', length @ ..]) => {
+            let whole = length.starts_with(&(request.codes.len() as u32).to_le_bytes());
+            if whole { "of the whole list" } else { "of a beginning" }.to_string()
+        }
         _ => "misshapen".to_string(),
     }
 }

@@ -113,7 +113,7 @@ fn add_op(line: &[u8], threads: &mut [Vec<Op>], locs: usize) -> Result<(), u8> {
 }
 
 /// A decimal number without leading zeros. One of many digits is held at the largest u64: above every limit.
-fn number(digits: &[u8]) -> Option<u64> {
+pub fn number(digits: &[u8]) -> Option<u64> {
     if digits.is_empty() || (digits.len() > 1 && digits[0] == b'0') {
         return None;
     }

@@ -30,32 +30,44 @@ fn the_simulator_agrees_with_itself() {
     let bench = ["q all", "q reached", "q never", "q over", "f followed", "f refused 10", "w written", "w refused 9"];
     let mend =
         ["m unchanged", "m cr", "m blank", "m zero", "m lf", "m cr blank zero lf", "m text alone", "m refused 9"];
-    for sort in bench.into_iter().chain(mend).chain(["m refused 12"]) {
+    let split = ["l legal", "l not allowed", "l text refused 2", "s of the whole list", "s of a beginning"];
+    for sort in bench.into_iter().chain(split).chain(mend).chain(["m refused 12", "s text refused 2"]) {
         assert!(output.contains(&format!("  {sort}: ")), "{sort} was never seen");
     }
 }
 
 #[test]
 fn each_slip_is_found_and_made_small() {
-    for (slip, most_ops, says) in [
+    let slips = [
         ("fo-waits", 1, "fo,0"),
         ("lost-cas-loads", 2, "cas,"),
         ("equal-is-over", 0, "answer=over"),
         ("carriage-return-read", 1, "\\r"),
         ("writer-clears", 0, "R 9 170"),
         ("index-from-one", 0, "R 10 0 0 0 0"),
+        ("legality-from-one", 0, "B 0 0 0 0"),
+        ("last-code-unseen", 0, "B 0 0 0 0"),
+        ("no-sort-passed", 0, "B 0 0 0 0"),
+        ("length-with-the-bad-code", 0, "S 0 0 0 0"),
+        ("state-from-start", 1, "S 1 0 0 0"),
+        ("length-of-the-list", 0, "S 0 0 0 0"),
         ("mender-feeds-nothing", 0, "number=9"),
         ("mender-clears", 0, "lent: 170"),
         ("mender-longest", 0, "number=12"),
         ("ends", 1, "ended without a response"),
-    ] {
-        let (output, ended_well) = compared(Some(slip));
-        assert!(!ended_well, "{slip}");
-        assert!(!output.lines().last().expect("a last line").ends_with(" 0 differ"), "{slip}");
-        let (shown, ops) = first_difference(&output);
-        assert!(ops.len() <= most_ops, "{slip}: {shown:#?}");
-        assert!(shown.iter().any(|line| line.contains(says)), "{slip}: {shown:#?}");
-    }
+    ];
+    std::thread::scope(|scope| {
+        for (slip, most_ops, says) in slips {
+            scope.spawn(move || {
+                let (output, ended_well) = compared(Some(slip));
+                assert!(!ended_well, "{slip}");
+                assert!(!output.lines().last().expect("a last line").ends_with(" 0 differ"), "{slip}");
+                let (shown, ops) = first_difference(&output);
+                assert!(ops.len() <= most_ops, "{slip}: {shown:#?}");
+                assert!(shown.iter().any(|line| line.contains(says)), "{slip}: {shown:#?}");
+            });
+        }
+    });
 }
 
 #[test]

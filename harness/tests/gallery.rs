@@ -17,6 +17,9 @@ fn every_text_has_its_answer() {
     assert!(ended_well && output.ends_with(" texts, 0 differ\n"), "{output}");
     let (output, ended_well) = gallery(&[directory, "--", simulate, "--", simulate, "mend"]);
     assert!(ended_well && output.ends_with(" texts, 0 differ\n"), "{output}");
+    let all = [directory, "--", simulate, "--", simulate, "mend", "--", simulate, "legal"];
+    let (output, ended_well) = gallery(&all);
+    assert!(ended_well && output.ends_with("41 texts, 0 differ\n"), "{output}");
 }
 
 #[test]
@@ -28,6 +31,13 @@ fn another_output_is_a_difference() {
     let simulate = env!("CARGO_BIN_EXE_simulate");
     let (output, ended_well) = gallery(&[directory, "--", simulate, "--", simulate]);
     assert!(!ended_well && output.ends_with(" 4 differ\n"), "{output}");
+    // One that is not legal differs on each list of runs, and nowhere else.
+    let wrong = [directory, "--", simulate, "--", simulate, "mend", "--", simulate];
+    let (output, ended_well) = gallery(&wrong);
+    assert!(!ended_well && output.ends_with(" 3 differ\n"), "{output}");
+    for usage in [&[directory, "--"][..], &[directory, "--", "a", "--", "b", "--", "c", "--", "d"], &[]] {
+        assert!(!gallery(usage).1);
+    }
     // No texts at all are no agreement.
     assert!(!gallery(&[concat!(env!("CARGO_MANIFEST_DIR"), "/src")]).1);
 }

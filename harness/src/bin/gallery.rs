@@ -1,6 +1,8 @@
-//! `gallery DIR [-- BENCH.. [-- MEND..]]`: each question of the gallery and each text from the forum beside its expected output, by the simulator
-//! and by the commands of `bench` and `mend`.
+//! `gallery DIR [-- BENCH.. [-- MEND.. [-- LEGAL..]]]`: each question of the gallery, each text from the forum and each list of runs beside its
+//! expected output, by the simulator and by the commands of `bench`, `mend` and `legal`.
 
+use harness::feed::feed_whole;
+use harness::legal::{print_legal, split};
 use harness::mend::{mend, print_mending, Mended, MAX_FORUM, MEND_LENDS};
 use harness::print::{print, BENCH_LENDS};
 use std::io::{self, Write};
@@ -10,16 +12,17 @@ use std::process::{Command, ExitCode, Output, Stdio};
 fn main() -> ExitCode {
     let words: Vec<String> = std::env::args().skip(1).collect();
     let parts: Vec<&[String]> = words.split(|word| word == "--").collect();
-    let (directory, bench, mend) = match parts[..] {
-        [[directory]] => (directory, &[][..], &[][..]),
-        [[directory], bench @ [_, ..]] => (directory, bench, &[][..]),
-        [[directory], bench @ [_, ..], mend @ [_, ..]] => (directory, bench, mend),
+    let (directory, commands) = match parts[..] {
+        [[directory], ref commands @ ..] if commands.len() <= 3 && commands.iter().all(|words| !words.is_empty()) => {
+            (directory, commands)
+        }
         _ => {
-            eprintln!("usage: gallery DIR [-- BENCH.. [-- MEND..]]");
+            eprintln!("usage: gallery DIR [-- BENCH.. [-- MEND.. [-- LEGAL..]]]");
             return ExitCode::from(2);
         }
     };
-    match compare(Path::new(directory), bench, mend) {
+    let command = |at: usize| commands.get(at).copied().unwrap_or_default();
+    match compare(Path::new(directory), command(0), command(1), command(2)) {
         Ok((texts, 0)) if texts > 0 => ExitCode::SUCCESS,
         Ok(_) => ExitCode::FAILURE,
         Err(error) => {
@@ -30,7 +33,7 @@ fn main() -> ExitCode {
 }
 
 /// Compares every text of the directory: how many there are, and how many differ. An empty command is left out.
-fn compare(directory: &Path, bench: &[String], mend: &[String]) -> io::Result<(usize, usize)> {
+fn compare(directory: &Path, bench: &[String], mend: &[String], legal: &[String]) -> io::Result<(usize, usize)> {
     let mut texts: Vec<PathBuf> = Vec::new();
     for entry in std::fs::read_dir(directory)? {
         let path = entry?.path();
@@ -41,8 +44,14 @@ fn compare(directory: &Path, bench: &[String], mend: &[String]) -> io::Result<(u
     texts.sort();
     let mut differ = 0;
     for path in &texts {
-        let from_forum = path.to_string_lossy().ends_with(".forum.txt");
-        let agrees = if from_forum { post_agrees(path, bench, mend)? } else { question_agrees(path, bench)? };
+        let name = path.to_string_lossy();
+        let agrees = if name.ends_with(".forum.txt") {
+            post_agrees(path, bench, mend)?
+        } else if name.ends_with(".runs.txt") {
+            runs_agree(path, legal)?
+        } else {
+            question_agrees(path, bench)?
+        };
         differ += usize::from(!agrees);
     }
     if !mend.is_empty() {
@@ -87,6 +96,21 @@ fn post_agrees(path: &Path, bench: &[String], mender: &[String]) -> io::Result<b
     if !bench.is_empty() {
         let answer = print(&text, BENCH_LENDS);
         agrees &= same(path, "bench's answer to the mended text", answer.as_bytes(), &output_of(bench, &mended)?);
+    }
+    Ok(agrees)
+}
+
+/// A list of runs behind a question: what legal prints for it. Where X.txt is there, X.runs.txt begins with that question.
+fn runs_agree(path: &Path, legal: &[String]) -> io::Result<bool> {
+    let input = std::fs::read(path)?;
+    let expected = std::fs::read(path.with_extension("out")).unwrap_or_default();
+    let mut agrees = same(path, "simulator", &expected, print_legal(&input).as_bytes());
+    let question = path.with_extension("").with_extension("txt");
+    if question.exists() {
+        agrees &= same(path, "question", &std::fs::read(question)?, &split(&input).0.concat());
+    }
+    if !legal.is_empty() {
+        agrees &= same(path, "legal", &expected, &feed_whole(legal, &input)?.output);
     }
     Ok(agrees)
 }

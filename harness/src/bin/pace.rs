@@ -1,14 +1,20 @@
 //! Measures the program's walk beside the one written by hand, its reader, and its mending beside the simulator's: `pace GALLERY -- BENCH.. --
-//! HAND.. -- ANSWERS.. -- SIMULATOR..`, the command lines of `bench`, of pace/hand.rs, of `answers`, and of the simulator answering the same
-//! requests. Each runs every question in turn, five times; the shortest time counts, less that of a question with one run. A batch of texts takes
-//! milliseconds: it is run a hundred times in turn with one of as many empty texts, whose shortest time is taken off.
+//! HAND.. -- ANSWERS.. -- SIMULATOR.. [-- PACE..]`, the command lines of `bench`, of pace/hand.rs, of `answers`, and of the simulator answering the
+//! same requests. Each runs every question in turn, five times; the shortest time counts, less that of a question with one run. A batch of texts
+//! takes milliseconds: it is run a hundred times in turn with one of as many empty texts, whose shortest time is taken off.
+//!
+//! The last command is that of `pace`, which judges the run of src/paced.rs a hundred thousand times: for legality, for the state, for both
+//! combined, or not at all, as its one word says. `pace -- PACE..` measures this alone.
 
+use harness::follow;
 use harness::hand::memory_number;
 use harness::mend::MEND_LENDS;
+use harness::paced::{PACED_RUN, PACED_TEXT, PACED_TIMES};
 use harness::pack::packed;
 use harness::program::{Question, Want};
 use harness::protocol::{Kind, Request};
 use harness::text;
+use std::hint::black_box;
 use std::io::Write;
 use std::path::Path;
 use std::process::{Command, Stdio};
@@ -48,10 +54,25 @@ const GALLERY: [&str; 4] = ["store-buffering-fenced", "two-writers-locked", "tar
 fn main() {
     let words: Vec<String> = std::env::args().skip(1).collect();
     let parts: Vec<&[String]> = words.split(|word| word == "--").collect();
-    let [[gallery], bench, hand, answers, simulator] = parts[..] else {
-        eprintln!("usage: pace GALLERY -- BENCH.. -- HAND.. -- ANSWERS.. -- SIMULATOR..");
-        std::process::exit(2);
-    };
+    match parts[..] {
+        [[], pace @ [_, ..]] => pace_of_legality(pace),
+        [[gallery], bench, hand, answers, simulator] => pace_of_texts(gallery, bench, hand, answers, simulator),
+        [[gallery], bench, hand, answers, simulator, pace @ [_, ..]] => {
+            pace_of_texts(gallery, bench, hand, answers, simulator);
+            println!();
+            pace_of_legality(pace);
+        }
+        _ => {
+            eprintln!(
+                "usage: pace GALLERY -- BENCH.. -- HAND.. -- ANSWERS.. -- SIMULATOR.. [-- PACE..], or pace -- PACE.."
+            );
+            std::process::exit(2);
+        }
+    }
+}
+
+/// The tables of the walk, of the reader and of mending.
+fn pace_of_texts(gallery: &str, bench: &[String], hand: &[String], answers: &[String], simulator: &[String]) {
     let mut questions: Vec<(String, String)> =
         QUESTIONS.iter().map(|(name, text)| (name.to_string(), text.to_string())).collect();
     let of_gallery = |name: &str| {
@@ -104,6 +125,49 @@ fn pace_of_mending(answers: &[String], simulator: &[String], run_of_a: f64) {
             mine / run_of_a
         );
     }
+}
+
+/// The table of legality, state and both combined, on the run of src/paced.rs: by the program, less what it takes to do nothing, and by the
+/// simulator in this process.
+fn pace_of_legality(pace: &[String]) {
+    println!("| what | runs a second | times as long as legality alone |");
+    println!("|---|---|---|");
+    let seconds = |word: &str| {
+        let (time, said) = shortest(&[pace, &[word.to_string()]].concat(), &[]);
+        assert!(!said.is_empty(), "pace: no checksum for {word}");
+        time.as_secs_f64()
+    };
+    let nothing = seconds("nothing");
+    rows("", ["legality", "state", "combined"].map(|word| (word, seconds(word) - nothing)));
+    let program = text::read(PACED_TEXT.as_bytes()).expect("a question").program;
+    rows(
+        "the simulator's ",
+        [
+            ("legality", in_process(|| follow::legality(black_box(&program), black_box(&PACED_RUN)))),
+            ("state", in_process(|| follow::longest(black_box(&program), black_box(&PACED_RUN)))),
+            ("follow", in_process(|| follow::follow(black_box(&program), black_box(&PACED_RUN)))),
+        ],
+    );
+}
+
+/// A row for each, with the seconds that it took a hundred thousand times; the first is legality alone.
+fn rows(whose: &str, taken: [(&str, f64); 3]) {
+    let (_, alone) = taken[0];
+    for (what, seconds) in taken {
+        println!("| {whose}{what} | {:.0} | {:.2} |", f64::from(PACED_TIMES) / seconds, seconds / alone);
+    }
+}
+
+/// The shortest of five times that it takes to do this a hundred thousand times.
+fn in_process<T>(does: impl Fn() -> T) -> f64 {
+    let once = || {
+        let start = Instant::now();
+        for _ in 0..PACED_TIMES {
+            black_box(does());
+        }
+        start.elapsed()
+    };
+    (0..TIMES).map(|_| once()).min().expect("at least one time").as_secs_f64()
 }
 
 /// Requests to mend this text, with room enough and with all that is printed.

@@ -1,5 +1,6 @@
 //! Lists of codes: allowed ones of every length, ones with a bad code in them, and any.
 
+use super::damage::damaged;
 use super::programs::{any_program, full_program, small_program};
 use super::questions::question;
 use crate::machine::{step, State, LAST_CODE};
@@ -11,33 +12,43 @@ use crate::text::text_of;
 /// Longer than any run: three steps for each of 32 instructions.
 const BEYOND_ANY_RUN: usize = 97;
 
-pub fn followed(random: &mut Random) -> Request {
-    let question = if random.once_in(4) {
-        question(random)
-    } else {
-        let program = match random.below(6) {
-            0 | 1 => small_program(random),
-            2 => full_program(random),
-            _ => any_program(random),
-        };
-        Question { program, budget: 1 + random.below(100) as u64, want: Want::All }
-    };
+/// A list of codes for a question, to be followed or judged.
+pub fn listed(random: &mut Random, kind: Kind) -> Request {
+    let question = question_for_codes(random);
     let codes = codes_for(random, &question.program);
     let mut text = text_of(&question).into_bytes();
-    if random.once_in(40) {
-        text.pop();
+    match random.below(60) {
+        0 => {
+            text.pop();
+        }
+        // A text that is refused by any number, or one of another program.
+        1 => text = damaged(random).text,
+        _ => (),
     }
-    Request { kind: Kind::Follow, lent: 0, text, codes }
+    Request { kind, lent: 0, text, codes }
 }
 
-fn codes_for(random: &mut Random, program: &Program) -> Vec<u8> {
+/// A question with a program of any size, since it is not walked.
+pub fn question_for_codes(random: &mut Random) -> Question {
+    if random.once_in(4) {
+        return question(random);
+    }
+    let program = match random.below(6) {
+        0 => small_program(random),
+        1 | 2 => full_program(random),
+        _ => any_program(random),
+    };
+    Question { program, budget: 1 + random.below(100) as u64, want: Want::All }
+}
+
+pub fn codes_for(random: &mut Random, program: &Program) -> Vec<u8> {
     let length = random.below(BEYOND_ANY_RUN);
-    match random.below(12) {
+    match random.below(13) {
         // An allowed list, to its end or cut short.
         0..=3 => allowed_walk(random, program, length).0,
         4 | 5 => allowed_walk(random, program, usize::MAX).0,
-        // A bad code behind an allowed list, and perhaps more behind it.
-        6..=8 => {
+        // A bad code behind an allowed list of any length, and perhaps more behind it.
+        6..=9 => {
             let (mut codes, state) = allowed_walk(random, program, length);
             codes.push(bad_code(random, program, &state));
             for _ in 0..random.below(4) {
@@ -46,7 +57,7 @@ fn codes_for(random: &mut Random, program: &Program) -> Vec<u8> {
             codes
         }
         // One code of an allowed list changed, lost or doubled.
-        9 => {
+        10 => {
             let mut codes = allowed_walk(random, program, usize::MAX).0;
             if !codes.is_empty() {
                 let at = random.below(codes.len());
@@ -61,7 +72,7 @@ fn codes_for(random: &mut Random, program: &Program) -> Vec<u8> {
             codes
         }
         // Longer than any run.
-        10 => {
+        11 => {
             let mut codes = allowed_walk(random, program, usize::MAX).0;
             let more = if random.once_in(20) { 5000 } else { BEYOND_ANY_RUN };
             codes.extend((0..more).map(|_| random.below(usize::from(LAST_CODE) + 1) as u8));
@@ -72,7 +83,7 @@ fn codes_for(random: &mut Random, program: &Program) -> Vec<u8> {
 }
 
 /// Allowed codes, at most so many, and the state behind them. Some walks like one sort of step better than others.
-fn allowed_walk(random: &mut Random, program: &Program, length: usize) -> (Vec<u8>, State) {
+pub fn allowed_walk(random: &mut Random, program: &Program, length: usize) -> (Vec<u8>, State) {
     let taste = random.below(6);
     let strict = random.once_in(2);
     let mut state = State::start(program);

@@ -56,7 +56,7 @@ fn any_byte(random: &mut Random) -> u8 {
 }
 
 /// Replaces, puts in or takes out one byte.
-fn change_byte(random: &mut Random, mut text: Vec<u8>) -> Vec<u8> {
+pub fn change_byte(random: &mut Random, mut text: Vec<u8>) -> Vec<u8> {
     let at = random.below(text.len() + 1);
     match random.below(4) {
         0 => text.insert(at, any_byte(random)),
@@ -104,7 +104,7 @@ fn change_lines(random: &mut Random, text: Vec<u8>) -> Vec<u8> {
 }
 
 /// Puts another number in the place of one: grown, over a limit, with a leading zero or a sign, of many digits.
-fn change_number(random: &mut Random, text: Vec<u8>) -> Vec<u8> {
+pub fn change_number(random: &mut Random, text: Vec<u8>) -> Vec<u8> {
     let starts: Vec<usize> = (0..text.len())
         .filter(|&at| text[at].is_ascii_digit() && (at == 0 || !text[at - 1].is_ascii_digit()))
         .collect();

@@ -45,6 +45,29 @@ fn answer(slip: &str, request: &Request) -> Vec<u8> {
             wrong[2] = wrong[2].wrapping_add(1);
             wrong
         }
+        "legality-from-one" if request.kind == Kind::Legality && right.starts_with(b"B") => one_more(right),
+        // Legal said of all but the last code.
+        "last-code-unseen" if request.kind == Kind::Legality => {
+            let seen = request.codes.len().saturating_sub(1);
+            reply(&Request { codes: request.codes[..seen].to_vec(), ..request.clone() })
+        }
+        // A code of no sort passed over.
+        "no-sort-passed" if request.kind == Kind::Legality => {
+            let codes = request.codes.iter().copied().filter(|code| !(48..64).contains(code)).collect();
+            reply(&Request { codes, ..request.clone() })
+        }
+        "length-with-the-bad-code" if request.kind == Kind::State && length_told(&right) < request.codes.len() => {
+            one_more(right)
+        }
+        // No state but the first where a code is not allowed.
+        "state-from-start" if request.kind == Kind::State && length_told(&right) < request.codes.len() => {
+            let start = reply(&Request { codes: Vec::new(), ..request.clone() });
+            [&right[..5], &start[5..]].concat()
+        }
+        // The length of the list for that of its beginning.
+        "length-of-the-list" if request.kind == Kind::State && right.starts_with(b"S") => {
+            [b"S", &(request.codes.len() as u32).to_le_bytes()[..], &right[5..]].concat()
+        }
         // A line feed for a text of which nothing is left.
         "mender-feeds-nothing" if request.kind == Kind::Mend && mended(&request.text).text.is_empty() => {
             with_text("\n".to_string())
@@ -57,6 +80,20 @@ fn answer(slip: &str, request: &Request) -> Vec<u8> {
         "mender-longest" if request.kind == Kind::Mend && request.text.len() == MAX_FORUM => with_text(text + "x"),
         "ends" if request.kind == Kind::Query && text.contains("op=faa") => std::process::exit(3),
         _ => right,
+    }
+}
+
+/// The response with the index or length behind its letter one more.
+fn one_more(mut response: Vec<u8>) -> Vec<u8> {
+    response[1] = response[1].wrapping_add(1);
+    response
+}
+
+/// The length that a response tells with a state.
+fn length_told(response: &[u8]) -> usize {
+    match *response {
+        [b'S', a, b, c, d, ..] => u32::from_le_bytes([a, b, c, d]) as usize,
+        _ => usize::MAX,
     }
 }
 
