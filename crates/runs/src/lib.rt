@@ -27,7 +27,7 @@ pub enum Codes {
 
 // Reads the codes of a part into the front of `codes`: one for each two of its bytes, and one more, at most.
 fn read_codes(part: &[u8], codes: &mut [u8; 512]) -> Codes
-    requires { ⌜ length (now part) ≤ 1020 ⌝ }
+    requires { ⌜ (length (now part) ≤ 1020) × (length (now codes) ≡ 512) ⌝ }
     ensures { λ r. ⌜ Reads (codesOf (now (part .entry))) r (now (codes .exit)) ⌝ }
 {
     if part.len() == 0 {
