@@ -51,7 +51,8 @@ use Rattle.say.proofs.Values.{Stores, AllStore, left-bytes}
 use Rattle.say.proofs.Bound.{longest, refused-long, said-long}
 use Rattle.report.specs.Response.{mostLent, lentOf, mostPrinted, answerTo, responseTo, responseOf}
 use Rattle.report.specs.Heard.{Sized, answerIn, Asks}
-use Rattle.report.proofs.Lines.{mostLine, Numbered, read-numbered}
+use Rattle.text.proofs.Lines.{Numbered, read-numbered}
+use Rattle.text.proofs.Told.{was-refused, was-accepted}
 
 -- what is read stores bytes
 within-stores : (locs : ℕ) (o : Op) → Within locs o → Stores o
@@ -192,48 +193,23 @@ module _ (a : Asked) (f : Fitting a) where
       }
 
 -- what the code read, by its verdict
-was-refused : (x : Outcome) (r : Parsed) (k n : ℕ) → r ≡ parsedOf x → r .verdict ≡ Refused k n → x ≡ refused k n
-unfolding parsedOf
-was-refused (refused i m) r k n e v =
-    let q : Refused i m ≡ Refused k n = sym (ap (λ (y : Parsed). y .verdict) e) ∙ v in
-    cc
-was-refused (accepted a) r k n e v =
-    let q : Accepted ≡ Refused k n = sym (ap (λ (y : Parsed). y .verdict) e) ∙ v in
-    let z : _≡_ {A = ℕ} 0 1 = cc in
-    absurd (omega arith)
-
-was-accepted : (x : Outcome) (r : Parsed) → r ≡ parsedOf x → r .verdict ≡ Accepted → (a : Asked) × (x ≡ accepted a) × (r .question ≡ questionOf a)
-unfolding parsedOf
-was-accepted (refused i m) r e v =
-    let q : Refused i m ≡ Accepted = sym (ap (λ (y : Parsed). y .verdict) e) ∙ v in
-    let z : _≡_ {A = ℕ} 0 1 = cc in
-    absurd (omega arith)
-was-accepted (accepted a) r e v = (a, refl, ap (λ (y : Parsed). y .question) e)
-
 module _ (l : List ℕ) (r : Parsed) (e : r ≡ readOf l) where
-  reads : r ≡ parsedOf (readText l)
-  reads = e ∙ sym (read-is l)
-
-  -- a refusal: its text, and that its numbers are small
-  module _ (k n : ℕ) (v : r .verdict ≡ Refused k n) where
-    pub refused-says : (lent : ℕ) → responseOf lent l ≡ refusedText k n
-    unfolding responseOf responseTo
-    refused-says lent = rw (was-refused (readText l) r k n reads v)
-
-    pub refused-small : (k ≤ 5) × (n ≤ mostLine)
-    refused-small = subst Numbered (was-refused (readText l) r k n reads v) (read-numbered l)
+  -- a refusal: its text
+  pub refused-says : (k n : ℕ) → r .verdict ≡ Refused k n → (lent : ℕ) → responseOf lent l ≡ refusedText k n
+  unfolding responseOf responseTo
+  refused-says k n v lent = rw (was-refused l r e k n v)
 
   -- a question: what asking it needs, and its text
   module _ (v : r .verdict ≡ Accepted) (lent : ℕ) where
     pub accepted-asks : (room : ℕ) → lent ≤ mostLent → mostPrinted ≤ room → Asks (r .question) lent room
     accepted-asks room h m =
-        let a = was-accepted (readText l) r reads v in
+        let a = was-accepted l r e v in
         rw (a .2) (fitting-asks (a .0) (accepted-fits l (a .0) (a .1)) lent room h (omega arith))
 
     pub accepted-says : responseOf lent l ≡ said (answerIn (r .question) lent)
     unfolding responseOf responseTo
     accepted-says =
-        let a = was-accepted (readText l) r reads v in
+        let a = was-accepted l r e v in
         ap (responseTo lent) (a .1)
         ∙ (ap said (sym (fitting-answer (a .0) (accepted-fits l (a .0) (a .1)) lent)) ∙ ap (λ (q : Question). said (answerIn q lent)) (sym (a .2)))
 

@@ -4,10 +4,11 @@ use mathlib.Core.Path.{sym, _∙_, ap}
 use Prim.Native.Nat.{ℕ}
 use lib.ListN.{length, take}
 use lib.Seq.{length-take-le}
+use Rattle.text.proofs.Told.{refused-small}
 use Rattle.say.specs.Said.{refusedText}
 use Rattle.say.proofs.Bound.{refused-long}
 use Rattle.report.specs.Response.{lentOf, responseOf}
-use Rattle.report.proofs.Answers.{refused-says, refused-small, accepted-asks, accepted-says, lent-most, lent-all}
+use Rattle.report.proofs.Answers.{refused-says, accepted-asks, accepted-says, lent-most, lent-all}
 use borrow.Author.Needs.{needs}
 use Rattle.report.proofs.respond_in.Statement.{statement}
 use Rattle.report.proofs.respond_in.Tie as tie

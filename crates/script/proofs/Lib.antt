@@ -1,0 +1,3 @@
+-- Laws of the stream.
+pub mod Seen
+pub mod Whole
