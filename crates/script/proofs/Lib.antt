@@ -1,3 +1,5 @@
 -- Laws of the stream.
 pub mod Seen
+pub mod Stages
+pub mod Opening
 pub mod Whole

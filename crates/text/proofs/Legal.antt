@@ -100,7 +100,7 @@ module _ (a : Asked) (f : Fitting a) where
       (le-leb 1 (f .head .locs) (n .0)))
       (le-leb (f .head .locs) locations (n .1)))
 
-  fitting-prog : legalProg (a .prog) ≡ true
+  pub fitting-prog : legalProg (a .prog) ≡ true
   unfolding legalProg
   fitting-prog =
       ap (λ (x : Asked). legalSizes (length (x .prog .threads)) (x .prog .locs) && legalThreads (x .prog .locs) (x .prog .threads)) (f .is)
