@@ -1,3 +1,5 @@
 -- Laws of the stream.
 pub mod Seen
 pub mod Whole
+pub mod Feeding
+pub mod Ending
