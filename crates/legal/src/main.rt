@@ -18,7 +18,15 @@ fn main() {
         if got == 0 {
             break;
         }
-        let f = script::feed(s, &mut text, number, &mut line, held, &piece[..got], &mut out);
+        let f = script::feed(
+            s,
+            &mut text,
+            number,
+            &mut line,
+            held,
+            &piece[..got],
+            &mut out,
+        );
         let n = f.length;
         io::write_all(STDOUT_FILENO, &out[..n]);
         s = f.standing;

@@ -1,7 +1,7 @@
 -- One byte more, and a byte more of a piece, as the code holds them: the place that stands then, and what was written. Assumes nothing.
 use mathlib.Core.Path.{_≡_, refl, sym, ap, _∙_, subst}
 use mathlib.Core.List.{List, [], _∷_, _++_, append-nil}
-use Prim.Native.Nat.{ℕ, _+_, _*_, _≤_, _<_}
+use Prim.Native.Nat.{ℕ, _+_, _≤_, _<_}
 use native.Mathlib.Omega.{arith}
 use native.Mathlib.Numerals.{add-one}
 use lib.ListN.{length, take, getD, length-append}
@@ -9,7 +9,7 @@ use lib.Seq.{take-suc, take-all}
 use Rattle.number.specs.Put.{put}
 use Rattle.number.proofs.Put.{put-nil, put-then}
 use Rattle.script.specs.declared.Standing.{Standing}
-use Rattle.script.specs.Script.{mostSeen, seen, next, says, counted}
+use Rattle.script.specs.Script.{seen, next, says, counted}
 use Rattle.script.specs.Stream.{Place, taken, told, fed, tells}
 use Rattle.script.specs.Stands.{Front, Stands, Holds}
 use Rattle.script.proofs.Whole.{fed-two, tells-two, taken-end, told-end, taken-more, told-more}

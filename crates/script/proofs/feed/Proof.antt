@@ -1,11 +1,11 @@
 -- `feed` meets its contract. The loop's invariant: from every place that stood at its start, the first i bytes were taken, and what they tell
 -- was written. The measure is the number of bytes left. Assumes nothing.
-use mathlib.Core.Path.{_≡_, refl, sym, ap, _∙_}
-use Prim.Native.Nat.{ℕ, _+_, _-_, _*_, _≤_}
+use mathlib.Core.Path.{_≡_, refl, _∙_}
+use Prim.Native.Nat.{_-_, _*_, _≤_}
 use native.Mathlib.Omega.{arith}
-use lib.ListN.{length, take}
+use lib.ListN.{length}
 use Rattle.runs.specs.Run.{mostReply}
-use Rattle.script.specs.Stream.{Place, fed}
+use Rattle.script.specs.Stream.{Place}
 use Rattle.script.specs.Stands.{Holds}
 use Rattle.script.proofs.Feeding.{Feeds, feeds-none, feeds-all, feeds-more}
 use Rattle.script.proofs.feed.Statement.{statement}

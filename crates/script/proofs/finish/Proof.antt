@@ -1,8 +1,8 @@
 -- `finish` meets its contract, stage by stage: behind a run line the text is read as it stands, and another line belongs to it. Assumes nothing.
 use mathlib.Core.Path.{_≡_, sym, ap, _∙_}
 use mathlib.Core.Bool.{true, false}
-use mathlib.Core.List.{List, [], _++_}
-use Prim.Native.Nat.{ℕ, _+_, _≤_}
+use mathlib.Core.List.{List, []}
+use Prim.Native.Nat.{ℕ}
 use native.Mathlib.Omega.{arith}
 use lib.ListN.{length, take}
 use lib.Seq.{length-take-le}
@@ -13,7 +13,7 @@ use Rattle.program.specs.Program.{Prog}
 use Rattle.line.specs.Split.{begins}
 use Rattle.say.specs.Said.{runKey}
 use Rattle.text.specs.Read.{readText}
-use Rattle.script.specs.Script.{seen, onText, cut, last}
+use Rattle.script.specs.Script.{onText, cut, last}
 use Rattle.script.specs.Stands.{Front}
 use Rattle.script.proofs.Ending.{cut-short, last-asking, last-ended, stage-reading, last-run, last-text, opened-on, opened-off}
 use Rattle.script.proofs.finish.Statement.{statement}

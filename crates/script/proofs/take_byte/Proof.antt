@@ -3,11 +3,10 @@ use mathlib.Core.Path.{_≡_, sym, ap, _∙_}
 use mathlib.Core.List.{List}
 use Prim.Native.Nat.{ℕ, _+_}
 use native.Mathlib.Omega.{arith}
-use lib.ListN.{length, take}
+use lib.ListN.{length}
 use lib.Seq.{length-take-le}
 use borrow.Author.Needs.{needs}
 use Rattle.number.specs.Put.{put}
-use Rattle.script.specs.Stands.{Holds}
 use Rattle.script.proofs.Feeding.{end-told, end-taken, more-taken, more-length, more-told}
 use Rattle.script.proofs.take_byte.Statement.{statement}
 use Rattle.script.proofs.take_byte.Tie as tie
