@@ -46,16 +46,18 @@ module _ (p : Program) (cs : List ℕ) (ok : legal p ≡ true) where
   -- a list is legal exactly if it is a run: "each allowed in its turn from the start"
   pub legal-exactly : (legality p cs ≡ Legal) ↔ ((n : Machine) × (after (step (progOf p)) (to start) cs ≡ to n))
   legal-exactly =
-      let w = legal-by (length cs) _ _ _ (tied-whole (step (progOf p)) cs start) in
-      (λ e. let (n, a) = w .0 (sym (legality-legal p cs ok) ∙ e) in (n, follow-at (step (progOf p)) n cs 0 start .0 a),
-      λ (n, a). legality-legal p cs ok ∙ w .1 (n, follow-at (step (progOf p)) n cs 0 start .1 a))
+      let w = legal-by (length cs) _ _ _ (tied-whole (step (progOf p)) cs start) in (
+        λ e. let (n, a) = w .0 (sym (legality-legal p cs ok) ∙ e) in (n, follow-at (step (progOf p)) n cs 0 start .0 a),
+        λ (n, a). legality-legal p cs ok ∙ w .1 (n, follow-at (step (progOf p)) n cs 0 start .1 a),
+      )
 
   -- the index is that of the first code not allowed
   pub stops-exactly : (i : ℕ) → (legality p cs ≡ Stops i) ↔ Ends (step (progOf p)) true start cs i
   stops-exactly i =
-      let w = stops-by (length cs) i _ _ _ (tied-whole (step (progOf p)) cs start) in
-      (λ e. follow-stopped (step (progOf p)) start cs i .0 (w .0 (sym (legality-legal p cs ok) ∙ e)),
-      λ a. legality-legal p cs ok ∙ w .1 (follow-stopped (step (progOf p)) start cs i .1 a))
+      let w = stops-by (length cs) i _ _ _ (tied-whole (step (progOf p)) cs start) in (
+        λ e. follow-stopped (step (progOf p)) start cs i .0 (w .0 (sym (legality-legal p cs ok) ∙ e)),
+        λ a. legality-legal p cs ok ∙ w .1 (follow-stopped (step (progOf p)) start cs i .1 a),
+      )
 
 -- the state of the longest beginning that is a run, with its length
 pub record Reaches (p : Program) (cs : List ℕ) (k : ℕ) (m : List ℕ) (g : List (List ℕ)) (ns : List ℕ) : Type 0 where

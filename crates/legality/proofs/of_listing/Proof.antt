@@ -80,8 +80,11 @@ loop-less : tie.Need-loop-less Inv-loop μ-loop
 loop-less c = omega (arith, c .before .before .before .before .before .before .before .before .before .before .before .before .loop-test .taken)
 
 loop-again : tie.Need-loop-again Inv-loop μ-loop
-loop-again c = (omega (arith, c .before .before .before .before .before .before .before .before .before .before .before .before .loop-test .taken), λ p n.
-    passes p _ _ _ _ (c .before .before .before .before .before .before .before .before .before .before .before .before .before .loop .inv .1 p n) (omega (arith, c .before .before .before .before .before .before .before .before .before .before .before .before .loop-test .taken)) _ _ _ (was-taken _ _ _ _ _ (c .before .before .before .before .take-turn .ensures p n) _ (c .before .before .t .given .1)) (c .loaded .ensures))
+loop-again c = (
+  omega (arith, c .before .before .before .before .before .before .before .before .before .before .before .before .loop-test .taken),
+  λ p n.
+      passes p _ _ _ _ (c .before .before .before .before .before .before .before .before .before .before .before .before .before .loop .inv .1 p n) (omega (arith, c .before .before .before .before .before .before .before .before .before .before .before .before .loop-test .taken)) _ _ _ (was-taken _ _ _ _ _ (c .before .before .before .before .take-turn .ensures p n) _ (c .before .before .t .given .1)) (c .loaded .ensures),
+)
 
 shared-slice-read-judge : tie.Need-shared-slice-read-judge Inv-loop μ-loop
 shared-slice-read-judge c = omega (arith, c .before .before .before .before .before .before .before .before .before .before .before .before .before .before .before .before .before .if1 .left)

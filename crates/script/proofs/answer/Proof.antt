@@ -26,9 +26,10 @@ returns : tie.Need-returns
 returns c =
     let s = c .before .before .before .before .before .before .before .before in
     let r = c .before .before .before .before .reply-to in
-    let w = c .before .before .put-reply in
-    (λ p l. let e = r .ensures .0 p l in (w .ensures .0 ∙ ap (λ (x : Reply). s .args .at + length (replyLine (s .args .n) x)) e, w .ensures .1 ∙ ap (λ (x : Reply). put (s .args .buf .now) (s .args .at) (replyLine (s .args .n) x)) e),
-    omega (arith, w .ensures .0, reply-short (s .args .n) (r .result) (omega (arith, s .fits .n .fits)) (r .ensures .1)))
+    let w = c .before .before .put-reply in (
+      λ p l. let e = r .ensures .0 p l in (w .ensures .0 ∙ ap (λ (x : Reply). s .args .at + length (replyLine (s .args .n) x)) e, w .ensures .1 ∙ ap (λ (x : Reply). put (s .args .buf .now) (s .args .at) (replyLine (s .args .n) x)) e),
+      omega (arith, w .ensures .0, reply-short (s .args .n) (r .result) (omega (arith, s .fits .n .fits)) (r .ensures .1)),
+    )
 
 pub answer-spec : {M : Type 1} → statement M
 answer-spec = tie.close (tie.spec reply-to-requires put-reply-requires same-length returns)

@@ -33,11 +33,12 @@ returns c =
     let f = replies (s .n) (s .line .now) in
     let e = on-accepted _ (y .0) f (y .1) in
     let same = o .ensures .2 ∙ ap (put _ _) (on-accepted _ (y .0) (λ p. []) (y .1)) ∙ put-nil _ _ in
-    let r = w .ensures .0 (y .0 .prog) (y .2) in
-    (o .ensures .0,
-    r .0 ∙ ap (λ (x : List ℕ). s .at + length x) (sym e),
-    r .1 ∙ ap (λ (d : List ℕ). put d (s .at) (f (y .0 .prog))) same ∙ ap (put _ _) (sym e),
-    w .ensures .1)
+    let r = w .ensures .0 (y .0 .prog) (y .2) in (
+      o .ensures .0,
+      r .0 ∙ ap (λ (x : List ℕ). s .at + length x) (sym e),
+      r .1 ∙ ap (λ (d : List ℕ). put d (s .at) (f (y .0 .prog))) same ∙ ap (put _ _) (sym e),
+      w .ensures .1,
+    )
 
 same-length-2 : tie.Need-same-length-2
 same-length-2 c = search needs

@@ -27,13 +27,13 @@ returns c =
     let s = c .before .before .before .before .before .before .before .before .before .args in
     let w = c .before .before .answer in (
       λ a h.
-      let x = at-stage-1 (s .s) (s .text .now) a h (c .before .before .before .before .if1 .taken) in
-      let e = ap (λ (y : Session). says y (s .n) (s .line .now)) (x .is) ∙ asked-says (x .prog) (s .n) (s .line .now) in
-      let r = w .ensures .0 (x .prog) (x .lists) in (
-        asked-on (s .s) (s .text .now) a (s .line .now) (x .prog) (x .is) h,
-        r .0 ∙ ap (λ (y : List ℕ). s .at + length y) (sym e),
-        r .1 ∙ ap (put _ _) (sym e),
-      ),
+          let x = at-stage-1 (s .s) (s .text .now) a h (c .before .before .before .before .if1 .taken) in
+          let e = ap (λ (y : Session). says y (s .n) (s .line .now)) (x .is) ∙ asked-says (x .prog) (s .n) (s .line .now) in
+          let r = w .ensures .0 (x .prog) (x .lists) in (
+            asked-on (s .s) (s .text .now) a (s .line .now) (x .prog) (x .is) h,
+            r .0 ∙ ap (λ (y : List ℕ). s .at + length y) (sym e),
+            r .1 ∙ ap (put _ _) (sym e),
+          ),
       w .ensures .1,
     )
 
@@ -41,12 +41,12 @@ returns-2 : tie.Need-returns-2
 returns-2 c =
     let s = c .before .before .before .before .before .before .args in (
       λ a h.
-      let x = at-stage-2 (s .s) (s .text .now) a h (c .before .if1 .left) (c .if2 .taken) in
-      let e = ap (λ (y : Session). says y (s .n) (s .line .now)) x ∙ ended-says (s .n) (s .line .now) in (
-        ended-on (s .s) (s .text .now) a (s .line .now) x h,
-        omega (arith, ap length e),
-        sym (ap (put _ _) e ∙ put-nil _ _),
-      ),
+          let x = at-stage-2 (s .s) (s .text .now) a h (c .before .if1 .left) (c .if2 .taken) in
+          let e = ap (λ (y : Session). says y (s .n) (s .line .now)) x ∙ ended-says (s .n) (s .line .now) in (
+            ended-on (s .s) (s .text .now) a (s .line .now) x h,
+            omega (arith, ap length e),
+            sym (ap (put _ _) e ∙ put-nil _ _),
+          ),
       omega arith,
     )
 
@@ -83,13 +83,13 @@ returns-3 c =
     let w = c .before .before .first in
     let b = sym (c .before .before .before .before .before .before .starts .ensures) ∙ c .before .before .before .before .before .if3 .taken in (
       λ a h.
-      let x = at-stage-0 (s .s) (s .text .now) a h (c .before .before .before .before .before .before .before .before .if2 .left) in
-      let t = x .2 .is in
-      let e = ap (λ (y : Session). says y (s .n) (s .line .now)) (x .1) ∙ run-says (x .0) (s .n) (s .line .now) b ∙ sym (ap (λ (y : List ℕ). onText (readText y) (replies (s .n) (s .line .now))) t) in (
-        run-on _ _ a (s .line .now) (x .0) _ t (x .1) b (w .ensures .0),
-        w .ensures .1 ∙ ap (λ (y : List ℕ). s .at + length y) (sym e),
-        w .ensures .2 ∙ ap (put _ _) (sym e),
-      ),
+          let x = at-stage-0 (s .s) (s .text .now) a h (c .before .before .before .before .before .before .before .before .if2 .left) in
+          let t = x .2 .is in
+          let e = ap (λ (y : Session). says y (s .n) (s .line .now)) (x .1) ∙ run-says (x .0) (s .n) (s .line .now) b ∙ sym (ap (λ (y : List ℕ). onText (readText y) (replies (s .n) (s .line .now))) t) in (
+            run-on _ _ a (s .line .now) (x .0) _ t (x .1) b (w .ensures .0),
+            w .ensures .1 ∙ ap (λ (y : List ℕ). s .at + length y) (sym e),
+            w .ensures .2 ∙ ap (put _ _) (sym e),
+          ),
       w .ensures .3,
     )
 
@@ -108,12 +108,12 @@ returns-4 c =
     let w = c .before .before .keep in
     let b = sym (c .before .before .before .before .before .starts .ensures) ∙ c .before .before .before .before .if3 .left in (
       λ a h.
-      let x = at-stage-0 (s .s) (s .text .now) a h (c .before .before .before .before .before .before .before .if2 .left) in
-      let e = ap (λ (y : Session). says y (s .n) (s .line .now)) (x .1) ∙ text-says (x .0) (s .n) (s .line .now) b in (
-        text-on _ _ a (s .line .now) (x .0) (x .1) b (refl, w .ensures .0 (x .0) (x .2)),
-        omega (arith, ap length e),
-        sym (ap (put _ _) e ∙ put-nil _ _),
-      ),
+          let x = at-stage-0 (s .s) (s .text .now) a h (c .before .before .before .before .before .before .before .if2 .left) in
+          let e = ap (λ (y : Session). says y (s .n) (s .line .now)) (x .1) ∙ text-says (x .0) (s .n) (s .line .now) b in (
+            text-on _ _ a (s .line .now) (x .0) (x .1) b (refl, w .ensures .0 (x .0) (x .2)),
+            omega (arith, ap length e),
+            sym (ap (put _ _) e ∙ put-nil _ _),
+          ),
       omega arith,
     )
 

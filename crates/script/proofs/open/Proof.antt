@@ -57,11 +57,12 @@ returns c =
     let u = c .before .before .before .wide in
     let x = was-refused (s .args .text .now) (r .read .result) (r .read .ensures) _ _ (v .1) in
     let h = refused-small (s .args .text .now) (r .read .result) (r .read .ensures) _ _ (v .1) in
-    let e = on-refused _ _ _ (λ p. []) x ∙ ap (λ (k : ℕ). refusedLine k (v .0 .1 .0)) (sym (u .ensures .0)) in
-    (λ t. stands-refused _ t _ _ _ x refl,
-    w .ensures .0 ∙ ap (λ (y : List ℕ). s .args .at + length y) (sym e),
-    w .ensures .1 ∙ ap (put _ _) (sym e),
-    omega (arith, w .ensures .0, refused-short (u .result) (v .0 .1 .0) (u .ensures .1) (omega (arith, h .1))))
+    let e = on-refused _ _ _ (λ p. []) x ∙ ap (λ (k : ℕ). refusedLine k (v .0 .1 .0)) (sym (u .ensures .0)) in (
+      λ t. stands-refused _ t _ _ _ x refl,
+      w .ensures .0 ∙ ap (λ (y : List ℕ). s .args .at + length y) (sym e),
+      w .ensures .1 ∙ ap (put _ _) (sym e),
+      omega (arith, w .ensures .0, refused-short (u .result) (v .0 .1 .0) (u .ensures .1) (omega (arith, h .1))),
+    )
 
 returns-2 : tie.Need-returns-2
 returns-2 c =
@@ -69,11 +70,12 @@ returns-2 c =
     let s = r .before .before .before in
     let a = was-accepted (s .args .text .now) (r .read .result) (r .read .ensures) (c .before .before .before .enum-told .given .1) in
     let e = on-accepted _ (a .0) (λ p. []) (a .1) in
-    let l = c .listed .ensures in
-    (λ t. stands-accepted _ t _ (a .0) (a .1) refl (listed-prog _ _ (a .0) (a .1) (a .2) _ (l .0)) (l .1 .0),
-    omega (arith, ap length e),
-    sym (ap (put _ _) e ∙ put-nil _ _),
-    omega arith)
+    let l = c .listed .ensures in (
+      λ t. stands-accepted _ t _ (a .0) (a .1) refl (listed-prog _ _ (a .0) (a .1) (a .2) _ (l .0)) (l .1 .0),
+      omega (arith, ap length e),
+      sym (ap (put _ _) e ∙ put-nil _ _),
+      omega arith,
+    )
 
 pub open-spec : {M : Type 1} → statement M
 open-spec =
