@@ -1,6 +1,8 @@
 -- No second answer meets the contract of a public function of this crate, where it is asked for one; of `step` the six arrays after it and the
--- registers that its load leaves are determined. Assumes nothing.
-use mathlib.Core.Path.{_≡_, sym, _∙_}
+-- registers that its load leaves are determined, and of `take_turn` these and the verdict. Assumes nothing.
+use mathlib.Core.Path.{_≡_, refl, sym, _∙_}
+use Prim.Native.Nat.{ℕ}
+use native.Mathlib.Omega.{arith}
 use borrow.Fn.Kinds.{Dens, endedOf}
 use contract.Lifetimes.{Lfts}
 use denote.Triple.Clauses.{AtExit}
@@ -13,7 +15,13 @@ use Rattle.state.specs.declared.State.{State}
 use Rattle.state.proofs.Unique.{determined}
 use Rattle.machine.specs.Registers.{loadedOf}
 use Rattle.machine.specs.Taken.{Takes}
+use Rattle.machine.specs.Turned.{Turns}
 use Rattle.machine.specs.declared.registers.Load.{Load}
+use Rattle.machine.specs.declared.turn.Turn.{Turn}
+use Rattle.machine.specs.declared.turn.Turn.the-variants.{Taken, Barred, NoRoom}
+use Rattle.verdict.specs.declared.Verdict.{Verdict}
+use Rattle.verdict.specs.declared.Verdict.the-variants.{Allowed}
+use Rattle.verdict.specs.declared.Verdict.the-variants as verdicts
 use Rattle.machine.proofs.registers.no_registers.Kinds as no-registers
 use Rattle.machine.proofs.registers.no_registers.Reads as no-registers-reads
 use Rattle.machine.proofs.registers.register_of.Kinds as register-of
@@ -54,3 +62,28 @@ register-of-once κs a x y e f p q = p ∙ sym q
 
 pub loaded-once : Once 0 loaded.ps loaded.r loaded-reads.Post
 loaded-once κs a x y e f p q = p ∙ sym q
+
+-- what became of a code, and the registers after it
+abbrev became : Turn → Verdict
+became (Taken n) = Allowed
+became Barred = verdicts.Barred
+became NoRoom = verdicts.NoRoom
+
+abbrev registersAfter : File → Turn → File
+registersAfter g (Taken n) = loadedOf g n
+registersAfter g Barred = g
+registersAfter g NoRoom = g
+
+-- a code in its turn: the state after it, what became of it and the registers are determined
+pub turns-once :
+    (x : Stepped) (s : State) (g : File) (r q : Turn) (t u : State) → Turns x s g r t → Turns x s g q u
+    → (t ≡ u) × (became r ≡ became q) × (registersAfter g r ≡ registersAfter g q)
+turns-once x s g (Taken n) (Taken m) t u h k = let o = takes-once x g n m t u h k in (o .0, refl, o .1)
+turns-once x s g (Taken n) Barred t u h k = let e = h .is in let f = k .0 in let z : _≡_ {A = ℕ} 0 1 = cc in absurd (omega arith)
+turns-once x s g (Taken n) NoRoom t u h k = let e = h .is in let f = k .0 in let z : _≡_ {A = ℕ} 0 1 = cc in absurd (omega arith)
+turns-once x s g Barred (Taken m) t u h k = let e = h .0 in let f = k .is in let z : _≡_ {A = ℕ} 0 1 = cc in absurd (omega arith)
+turns-once x s g Barred Barred t u h k = (h .1 ∙ sym (k .1), refl, refl)
+turns-once x s g Barred NoRoom t u h k = let e = h .0 in let f = k .0 in let z : _≡_ {A = ℕ} 0 1 = cc in absurd (omega arith)
+turns-once x s g NoRoom (Taken m) t u h k = let e = h .0 in let f = k .is in let z : _≡_ {A = ℕ} 0 1 = cc in absurd (omega arith)
+turns-once x s g NoRoom Barred t u h k = let e = h .0 in let f = k .0 in let z : _≡_ {A = ℕ} 0 1 = cc in absurd (omega arith)
+turns-once x s g NoRoom NoRoom t u h k = (h .1 ∙ sym (k .1), refl, refl)

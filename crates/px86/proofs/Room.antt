@@ -23,7 +23,7 @@ use Rattle.px86.specs.Ask.{eventsFrom, events}
 use Rattle.px86.proofs.Then.{Then}
 use Rattle.px86.proofs.Shape.{Shape, shape-from, shape-step}
 use Rattle.px86.proofs.Few.{Few, legal-few}
-use Rattle.px86.proofs.Bound.{fresh}
+use Rattle.px86.proofs.Bound.{fresh, bounded}
 use Rattle.px86.proofs.Done.{unheld}
 use Rattle.px86.proofs.Safe.{Safe, ahead, weight, Spare, safe-step}
 
@@ -128,6 +128,12 @@ module _ (p : Program) (ok : legal p ≡ true) where
   pub never-full : (cs : List ℕ) → after (step (progOf p)) (to start) cs ≡ full → ⊥
   unfolding start
   never-full = never-full-from (progOf p) (legal-few p ok) (kept p ok .short) [] (omega arith)
+
+  -- "No run is longer than three steps for each instruction", of which there are at most 32
+  pub run-few : (cs : List ℕ) (m : Machine) → after (step (progOf p)) (to start) cs ≡ to m → length cs ≤ 96
+  run-few cs m e =
+      let few : length (progOf p .threads) ≤ 4 = legal-few p ok in
+      omega (arith, bounded (progOf p) (legal-few p ok) cs m e, few-ops (progOf p .threads) (kept p ok .short), few)
 
   -- "one byte for each location": so long is what any run leaves
   pub left-length : (cs : List ℕ) (m : Machine) → after (step (progOf p)) (to start) cs ≡ to m → length (left (progOf p) m) ≡ p .locs
