@@ -16,8 +16,8 @@ use Rattle.px86.specs.Machine.{Machine, start}
 use Rattle.px86.specs.Step.{step}
 use Rattle.px86.specs.Step.Stepped.{to}
 use Rattle.px86.specs.Runs.{after, Followed}
-use Rattle.px86.specs.Runs.Followed.{at, stopped, noPlace}
-use Rattle.px86.specs.Apart.{First, first, legalityOf, legality, Longest, longest, reachedOf, reach}
+use Rattle.px86.specs.Runs.Followed.{at, stopped}
+use Rattle.px86.specs.Apart.{First, legalityOf, legality, Longest, longest, reachedOf, reach}
 use Rattle.px86.specs.Apart.First.{none, notAllowed, lacksRoom}
 use Rattle.px86.specs.Apart.Longest.{upTo, noRoom}
 use Rattle.px86.specs.Apart.Reached.{reaches}

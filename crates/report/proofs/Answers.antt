@@ -39,10 +39,9 @@ use Rattle.words.proofs.Want.{want-count}
 use Rattle.question.specs.Question.{Asked, Short, AllWithin, ThreadsWithin, questionOf}
 use Rattle.question.proofs.Made.{prog-back, wanted-back}
 use Rattle.question.proofs.Lawful.{within-short}
-use Rattle.text.specs.Read.{Outcome, refused, accepted, readText, parsedOf, readOf}
+use Rattle.text.specs.Read.{Outcome, refused, accepted, readText, readOf}
 use Rattle.text.specs.declared.Parsed.{Parsed}
 use Rattle.text.specs.declared.Verdict.the-variants.{Accepted, Refused}
-use Rattle.text.proofs.Ends.{read-is}
 use Rattle.text.proofs.Legal.{Fitting, accepted-fits, fitting-legal, fitting-want}
 use Rattle.rows.specs.Rows.{Wide}
 use Rattle.say.specs.Said.{said, refusedText}
