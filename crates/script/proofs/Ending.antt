@@ -9,13 +9,13 @@ use lib.ListN.{length}
 use Rattle.names.specs.Names.{pick}
 use Rattle.program.specs.Program.{Prog}
 use Rattle.line.specs.Split.{begins}
-use Rattle.text.specs.Read.{Outcome, refused, accepted, readText}
+use Rattle.text.specs.Read.{readText}
 use Rattle.say.specs.Said.{runKey}
 use Rattle.runs.specs.Run.{mostLine, mostReply, mostNumber, refusedLine}
 use Rattle.runs.proofs.Bounds.{refused-short}
 use Rattle.script.specs.declared.Standing.{Standing}
-use Rattle.script.specs.Script.{seen, Session, reading, asking, ended, opened, onText, cut, last}
-use Rattle.script.specs.Stands.{Front, Stands}
+use Rattle.script.specs.Script.{seen, Session, reading, asking, ended, onText, cut, last}
+use Rattle.script.specs.Stands.{Stands}
 
 -- a line that lacks its line feed is answered in at most 32 bytes
 cut-told : (t : Bool) (n : ℕ) → n ≤ mostNumber → length (refusedLine (pick t 1 2) n) ≤ mostReply
@@ -23,10 +23,10 @@ unfolding pick
 cut-told true n h = refused-short 1 n (omega arith) h
 cut-told false n h = refused-short 2 n (omega arith) h
 
-pub cut-short : (n : ℕ) (l : List ℕ) → n ≤ mostNumber → length (cut n l) ≤ mostReply
+pub cut-within : (n : ℕ) (l : List ℕ) → n ≤ mostNumber → length (cut n l) ≤ mostReply
 unfolding cut
-cut-short n [] h = omega arith
-cut-short n (c ∷ l) h = cut-told (ltb mostLine (length (c ∷ l))) n h
+cut-within n [] h = omega arith
+cut-within n (c ∷ l) h = cut-told (ltb mostLine (length (c ∷ l))) n h
 
 -- at stage 1 what stands is told; at stage 2 nothing
 pub last-asking : (s : Standing) (w : List ℕ) (a : Session) (n : ℕ) (l : List ℕ) → Stands s w a → s .stage ≡ 1 → last a n l ≡ cut n l
@@ -41,12 +41,6 @@ last-ended s w (reading t) n l h e f = absurd (f (h .0))
 last-ended s w (asking p) n l h e f = absurd (e (h .0))
 last-ended s w ended n l h e f = refl
 
--- at stage 0 the text stands in its array
-pub stage-reading : (s : Standing) (w : List ℕ) (a : Session) → Stands s w a → s .stage ≡ 0 → (t : List ℕ) × (a ≡ reading t) × Front w (s .text) t
-stage-reading s w (reading t) h e = (t, refl, h .1)
-stage-reading s w (asking p) h e = absurd (omega (arith, h .0, e))
-stage-reading s w ended h e = absurd (omega (arith, h, e))
-
 -- behind a run line the text is read as it stands
 pub last-run : (a : Session) (t : List ℕ) (n : ℕ) (l : List ℕ) → a ≡ reading t → begins runKey l ≡ true → last a n l ≡ onText (readText t) (λ (p : Prog). cut n l)
 unfolding last pick
@@ -60,12 +54,3 @@ unfolding last pick
 last-text a t n l e b =
     ap (λ (x : Session). last x n l) e
     ∙ ap (λ (x : Bool). pick x (onText (readText t) (λ (p : Prog). cut n l)) (onText (readText (seen (t ++ l))) (λ (p : Prog). []))) b
-
--- a text that was read: at stage 1 it was accepted, elsewhere refused
-pub opened-on : (r : Standing) (w : List ℕ) (o : Outcome) (x : List ℕ) → Stands r w (opened o) → r .stage ≡ 1 → onText o (λ (p : Prog). x) ≡ x
-opened-on r w (refused k m) x h e = absurd (omega (arith, h, e))
-opened-on r w (accepted a) x h e = refl
-
-pub opened-off : (r : Standing) (w : List ℕ) (o : Outcome) (x y : List ℕ) → Stands r w (opened o) → (r .stage ≡ 1 → ⊥) → onText o (λ (p : Prog). x) ≡ onText o (λ (p : Prog). y)
-opened-off r w (refused k m) x y h e = refl
-opened-off r w (accepted a) x y h e = absurd (e (h .0))

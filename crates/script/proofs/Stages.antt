@@ -14,7 +14,7 @@ use Rattle.question.specs.Question.{Asked}
 use Rattle.text.specs.Read.{Outcome, refused, accepted, readText}
 use Rattle.say.specs.Said.{runKey}
 use Rattle.runs.specs.Run.{lineReply, mostLine, refusedLine, replyLine}
-use Rattle.script.specs.Script.{Session, reading, asking, ended, seen, opened, onText, next, says, cut, last}
+use Rattle.script.specs.Script.{Session, reading, asking, ended, seen, opened, onText, next, says, cut}
 use Rattle.script.specs.Stands.{Front, Stands}
 use Rattle.script.specs.declared.Standing.{Standing}
 
@@ -85,14 +85,6 @@ module _ (t : List ℕ) (n : ℕ) (l : List ℕ) where
   unfolding says pick
   text-says e = rw e refl
 
-  pub run-last : begins runKey l ≡ true → last (reading t) n l ≡ onText (readText t) (λ p. cut n l)
-  unfolding last pick
-  run-last e = rw e refl
-
-  pub text-last : begins runKey l ≡ false → last (reading t) n l ≡ onText (readText (seen (t ++ l))) (λ p. [])
-  unfolding last pick
-  text-last e = rw e refl
-
 module _ (p : Prog) (n : ℕ) (l : List ℕ) where
   pub asked-next : next (asking p) l ≡ asking p
   unfolding next
@@ -102,10 +94,6 @@ module _ (p : Prog) (n : ℕ) (l : List ℕ) where
   unfolding says
   asked-says = refl
 
-  pub asked-last : last (asking p) n l ≡ cut n l
-  unfolding last
-  asked-last = refl
-
 module _ (n : ℕ) (l : List ℕ) where
   pub ended-next : next ended l ≡ ended
   unfolding next
@@ -114,10 +102,6 @@ module _ (n : ℕ) (l : List ℕ) where
   pub ended-says : says ended n l ≡ []
   unfolding says
   ended-says = refl
-
-  pub ended-last : last ended n l ≡ []
-  unfolding last
-  ended-last = refl
 
 -- the session after a line, as it stands
 module _ (s : Standing) (text : List ℕ) (a : Session) (l : List ℕ) where

@@ -15,7 +15,8 @@ use Rattle.say.specs.Said.{runKey}
 use Rattle.text.specs.Read.{readText}
 use Rattle.script.specs.Script.{onText, cut, last}
 use Rattle.script.specs.Stands.{Front}
-use Rattle.script.proofs.Ending.{cut-short, last-asking, last-ended, stage-reading, last-run, last-text, opened-on, opened-off}
+use Rattle.script.proofs.Ending.{cut-within, last-asking, last-ended, last-run, last-text}
+use Rattle.script.proofs.Stages.{at-stage-0, opened-1, opened-2, on-accepted}
 use Rattle.script.proofs.finish.Statement.{statement}
 use Rattle.script.proofs.finish.Tie as tie
 
@@ -23,7 +24,7 @@ use Rattle.script.proofs.finish.Tie as tie
 front : (c : tie.Else2) → let x = c .before .before .before .before .before .args in (t : List ℕ) × Front (x .text .now) (x .s .text) t
 front c =
     let s = c .before .before .before .before .before in
-    let q = stage-reading (s .args .s) (s .args .text .now) (s .pre .0 .0) (s .pre .0 .1) (c .if2 .left) in
+    let q = at-stage-0 (s .args .s) (s .args .text .now) (s .pre .0 .0) (s .pre .0 .1) (c .if2 .left) in
     (q .0, q .2)
 
 put-cut-requires : tie.Need-put-cut-requires
@@ -38,7 +39,7 @@ returns c =
     let s = c .before .before .before .before .before .before .before .before in
     let x = s .args in
     let d = c .before .before .before .before .if1 .taken in
-    let m = cut-short (x .number) (x .line .now) (omega arith) in (
+    let m = cut-within (x .number) (x .line .now) (omega arith) in (
       λ a h.
           let e = last-asking (x .s) (x .text .now) a (x .number) (x .line .now) h d in
           (omega (arith, p .ensures .0, ap length e), p .ensures .1 ∙ ap (put (x .out .now) 0) (sym e)),
@@ -88,12 +89,13 @@ returns-3 c =
     let t = take (x .s .text) (x .text .now) in
     let r = c .before .before .before .before .if4 .taken in
     let g : begins runKey (x .line .now) ≡ true = sym (c .before .before .before .before .before .before .before .before .before .before .before .before .starts .ensures) ∙ c .before .before .before .before .before .before .before .before .before .before .before .if3 .taken in
-    let m = cut-short (x .number) (x .line .now) (omega arith) in
-    let on = opened-on (o .result .standing) (x .text .now) (readText t) y (o .ensures .0 (x .text .now)) r in
-    let none = opened-on (o .result .standing) (x .text .now) (readText t) [] (o .ensures .0 (x .text .now)) r in
+    let m = cut-within (x .number) (x .line .now) (omega arith) in
+    let k = opened-1 (o .result .standing) (readText t) (o .ensures .0) r in
+    let on = on-accepted (readText t) (k .0) (λ (v : Prog). y) (k .1) in
+    let none = on-accepted (readText t) (k .0) (λ (v : Prog). []) (k .1) in
     let z : o .last .1 .0 ≡ x .out .now = o .ensures .2 ∙ ap (put (x .out .now) 0) none ∙ put-nil (x .out .now) 0 in (
       λ a h.
-          let q = stage-reading (x .s) (x .text .now) a h (c .before .before .before .before .before .before .before .before .before .before .before .before .before .before .if2 .left) in
+          let q = at-stage-0 (x .s) (x .text .now) a h (c .before .before .before .before .before .before .before .before .before .before .before .before .before .before .if2 .left) in
           let e : last a (x .number) (x .line .now) ≡ y =
           last-run a (q .0) (x .number) (x .line .now) (q .1) g ∙ ap (λ (u : List ℕ). onText (readText u) (λ (v : Prog). y)) (sym (q .2 .is)) ∙ on in
           (omega (arith, p .ensures .0, ap length e), p .ensures .1 ∙ ap (λ (u : List ℕ). put u 0 y) z ∙ ap (put (x .out .now) 0) (sym e)),
@@ -114,9 +116,9 @@ returns-4 c =
     let y = cut (x .number) (x .line .now) in
     let t = take (x .s .text) (x .text .now) in
     let g : begins runKey (x .line .now) ≡ true = sym (c .before .before .before .before .before .before .before .before .starts .ensures) ∙ c .before .before .before .before .before .before .before .if3 .taken in
-    let off = opened-off (o .result .standing) (x .text .now) (readText t) [] y (o .ensures .0 (x .text .now)) (c .if4 .left) in (
+    let off = opened-2 (o .result .standing) (readText t) (o .ensures .0) (c .if4 .left) (λ (v : Prog). []) (λ (v : Prog). y) in (
       λ a h.
-          let q = stage-reading (x .s) (x .text .now) a h (c .before .before .before .before .before .before .before .before .before .before .if2 .left) in
+          let q = at-stage-0 (x .s) (x .text .now) a h (c .before .before .before .before .before .before .before .before .before .before .if2 .left) in
           let e : onText (readText t) (λ (v : Prog). []) ≡ last a (x .number) (x .line .now) =
           off ∙ ap (λ (u : List ℕ). onText (readText u) (λ (v : Prog). y)) (q .2 .is) ∙ sym (last-run a (q .0) (x .number) (x .line .now) (q .1) g) in
           (omega (arith, o .ensures .1, ap length e), o .ensures .2 ∙ ap (put (x .out .now) 0) e),
@@ -153,7 +155,7 @@ returns-5 c =
     let x = s .args in
     let g : begins runKey (x .line .now) ≡ false = sym (c .before .before .before .before .before .before .before .before .before .before .starts .ensures) ∙ c .before .before .before .before .before .before .before .before .before .if3 .left in (
       λ a h.
-          let q = stage-reading (x .s) (x .text .now) a h (c .before .before .before .before .before .before .before .before .before .before .before .before .if2 .left) in
+          let q = at-stage-0 (x .s) (x .text .now) a h (c .before .before .before .before .before .before .before .before .before .before .before .before .if2 .left) in
           let f = p .ensures .0 (q .0) (q .2) in
           let e : onText (readText (take (p .result) (p .last .0))) (λ (v : Prog). []) ≡ last a (x .number) (x .line .now) =
           ap (λ (u : List ℕ). onText (readText u) (λ (v : Prog). [])) (f .is) ∙ sym (last-text a (q .0) (x .number) (x .line .now) (q .1) g) in
