@@ -3,8 +3,8 @@
 //! same requests. Each runs every question in turn, five times; the shortest time counts, less that of a question with one run. A batch of texts
 //! takes milliseconds: it is run a hundred times in turn with one of as many empty texts, whose shortest time is taken off.
 //!
-//! The last command is that of `pace`, which judges the run of src/paced.rs a hundred thousand times: for legality, for the state, for both
-//! combined, or not at all, as its one word says. `pace -- PACE..` measures this alone.
+//! The last command is that of `pace`, which judges the run of src/paced.rs a hundred thousand times: for legality, for legality with the program
+//! listed once, for the state, for both combined, or not at all, as its one word says. `pace -- PACE..` measures this alone.
 
 use harness::follow;
 use harness::hand::memory_number;
@@ -138,23 +138,19 @@ fn pace_of_legality(pace: &[String]) {
         time.as_secs_f64()
     };
     let nothing = seconds("nothing");
-    rows("", ["legality", "state", "combined"].map(|word| (word, seconds(word) - nothing)));
     let program = text::read(PACED_TEXT.as_bytes()).expect("a question").program;
-    rows(
-        "the simulator's ",
-        [
-            ("legality", in_process(|| follow::legality(black_box(&program), black_box(&PACED_RUN)))),
-            ("state", in_process(|| follow::longest(black_box(&program), black_box(&PACED_RUN)))),
-            ("follow", in_process(|| follow::follow(black_box(&program), black_box(&PACED_RUN)))),
-        ],
-    );
-}
-
-/// A row for each, with the seconds that it took a hundred thousand times; the first is legality alone.
-fn rows(whose: &str, taken: [(&str, f64); 3]) {
-    let (_, alone) = taken[0];
-    for (what, seconds) in taken {
-        println!("| {whose}{what} | {:.0} | {:.2} |", f64::from(PACED_TIMES) / seconds, seconds / alone);
+    let alone = seconds("legality") - nothing;
+    let rows = [
+        ("legality", alone),
+        ("legality, the program listed once", seconds("listed") - nothing),
+        ("state", seconds("state") - nothing),
+        ("combined", seconds("combined") - nothing),
+        ("the simulator's legality", in_process(|| follow::legality(black_box(&program), black_box(&PACED_RUN)))),
+        ("the simulator's state", in_process(|| follow::longest(black_box(&program), black_box(&PACED_RUN)))),
+        ("the simulator's follow", in_process(|| follow::follow(black_box(&program), black_box(&PACED_RUN)))),
+    ];
+    for (what, seconds) in rows {
+        println!("| {what} | {:.0} | {:.2} |", f64::from(PACED_TIMES) / seconds, seconds / alone);
     }
 }
 

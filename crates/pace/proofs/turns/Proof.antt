@@ -13,6 +13,12 @@ abbrev μ-loop : tie.MeasureT-loop
 paced-requires : tie.Need-paced-requires Inv-loop μ-loop
 paced-requires c κs = search needs
 
+first-run-requires : tie.Need-first-run-requires Inv-loop μ-loop
+first-run-requires c κs = search needs
+
+second-run-requires : tie.Need-second-run-requires Inv-loop μ-loop
+second-run-requires c κs = search needs
+
 loop-holds : tie.Need-loop-holds Inv-loop μ-loop
 loop-holds c = search needs
 
@@ -53,6 +59,8 @@ turns-spec =
     Inv-loop
     μ-loop
     paced-requires
+    first-run-requires
+    second-run-requires
     loop-holds
     slice-aggregate-one
     one-requires
