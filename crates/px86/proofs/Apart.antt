@@ -59,7 +59,7 @@ module _ (s : Steps) (i : ℕ) (m : Machine) (c : ℕ) (cs : List ℕ) where
   unfolding onLongest
   longest-full e = longest-cons ∙ ap (onLongest (λ n. longest s (suc i) n cs) i m) e
 
--- what ties the two, and following: "the index, where there is one, is the length; where there is none, the length is the list's", which ends at e
+-- what ties the two, and following: the index, where there is one, is the length; where there is none, the length is the list's, which ends at e
 abbrev pub Tied : ℕ → First → Longest → Followed → Type 0
 Tied e none l f = (n : Machine) × (l ≡ upTo e n) × (f ≡ at n)
 Tied e (notAllowed j) l f = (n : Machine) × (l ≡ upTo j n) × (f ≡ stopped j) × (j < e)

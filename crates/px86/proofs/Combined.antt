@@ -110,11 +110,11 @@ module _ (p : Program) (cs : List ℕ) where
   known l e = subst (λ (l : Legality). Agrees cs l (reach p cs) (followed p cs)) e agrees
 
   module _ (k : ℕ) (m : List ℕ) (g : List (List ℕ)) (ns : List ℕ) (r : reach p cs ≡ reaches k m g ns) where
-    -- "the index, where there is one, is the length"
+    -- the index, where there is one, is the length
     pub index-is-length : (i : ℕ) → legality p cs ≡ Stops i → i ≡ k
     index-is-length i e = let (m′, g′, ns′, q, f) = known (Stops i) e in cc
 
-    -- "where there is none, the length is the list's"
+    -- where there is none, the length is the list's
     pub none-is-whole : legality p cs ≡ Legal → k ≡ length cs
     none-is-whole e = let (m′, g′, ns′, q, f) = known Legal e in cc
 
@@ -128,6 +128,6 @@ module _ (p : Program) (cs : List ℕ) where
         (λ e. let z : _≡_ {A = ℕ} 0 1 = cc in absurd (omega arith), λ e. let z : _≡_ {A = ℕ} 0 1 = cc in absurd (omega arith))
     whole-by (Refused x) (q, f) = let z : _≡_ {A = ℕ} 0 1 = cc in absurd (omega arith)
 
-    -- "the state is that of the whole list exactly if there is none"
+    -- the state is that of the whole list exactly if there is none
     pub whole-exactly : (followed p cs ≡ state m g ns) ↔ (legality p cs ≡ Legal)
     whole-exactly = whole-by (legality p cs) agrees

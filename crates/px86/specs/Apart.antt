@@ -37,7 +37,7 @@ legalityOf none = Legal
 legalityOf (notAllowed i) = Stops i
 legalityOf (lacksRoom i) = Refused NoRoom
 
--- "refusal 6 as before, 11 as it stands"
+-- 6 before all; 11 where "an otherwise allowed step .. needs a place that its buffer or queue lacks"
 unfoldable pub legality : Program → List ℕ → Legality
 legality p cs = pick (legal p) (legalityOf (first (step (progOf p)) 0 start cs)) (Refused Illegal)
 

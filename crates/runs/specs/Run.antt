@@ -1,5 +1,5 @@
--- A LINE OF CODES AND ITS ANSWER: request 3's script: a line `run=` "with codes as bench prints them", answered "legal, or the index of the first
--- code that is not", or refused with a number. Assumes nothing: these are definitions.
+-- A LINE OF CODES AND ITS ANSWER, for request 3's "My script wants only "is this run legal" for thousands of runs": a line `run=` with codes as bench
+-- prints them is answered as legal, or with the index of the first code that is not, or refused with a number. Assumes nothing: these are definitions.
 use Prim.Native.Nat.{ℕ, _≤_}
 use mathlib.Core.List.{List, [], _∷_, _++_}
 use lib.Dec.{ltb}
@@ -35,7 +35,7 @@ unfoldable pub codesOf : List ℕ → Judged
 codesOf [] = fine []
 codesOf (c ∷ l) = codesFrom (fine []) (split comma (c ∷ l))
 
--- "legal, or the index of the first code that is not"
+-- legal, or "the index of the first code not allowed"
 unfoldable pub replyOf : Legality → Reply
 replyOf legality.Legal = Legal
 replyOf (legality.Stops i) = Illegal i

@@ -1,5 +1,5 @@
--- WHAT `legal` PRINTS: request 3: it "reads a question's text, then lines `run=` with codes as bench prints them, and answers each line in turn".
--- The text is all that stands before the first line that begins with `run=`. Assumes nothing: these are definitions.
+-- WHAT `legal` PRINTS, for request 3's script: it reads a question's text, then lines `run=`, and answers each line in its turn (docs/DECISIONS.md,
+-- "The format of `legal`"). The text is all that stands before the first line that begins with `run=`. Assumes nothing: these are definitions.
 use Prim.Native.Nat.{ℕ, _+_}
 use mathlib.Core.List.{List, [], _∷_, _++_}
 use lib.Dec.{ltb}
@@ -11,7 +11,8 @@ use Rattle.text.specs.Read.{Outcome, refused, accepted, readText}
 use Rattle.say.specs.Said.{runKey}
 use Rattle.runs.specs.Run.{lineReply, mostLine, mostNumber, refusedLine, replyLine}
 
--- "input of any length is taken in bounded memory": of a line, and of the text, the first 1,025 bytes count, which tell that it has over 1,024
+-- of a line, and of the text, the first 1,025 bytes count: they tell that it has over 1,024, and what stands behind them changes no answer
+-- (`seen-reply`, `seen-cut`, `seen-text`, `seen-begins`: proofs/Unseen.antt)
 abbrev pub mostSeen : ℕ
 mostSeen = 1025
 
@@ -24,7 +25,7 @@ pub data Session : Type 0 where
   asking : Prog → Session
   ended : Session
 
--- "The text is read once": at the first run line, or at the end
+-- the text is read once, at the first run line, or at the end
 abbrev pub opened : Outcome → Session
 opened (refused k m) = ended
 opened (accepted a) = asking (a .prog)
