@@ -2,7 +2,8 @@
 //! runs are legal, and the state after a run, from those of request 3.
 //!
 //! The simulator: `program`, `text`, `machine`, `ask`, `follow`, `print`; `mend`; `legal`. Two faster ways to count: `fast` and `hand`.
-//! The comparison with the proved side: `protocol`, `reply`, `generate`, `compare`, `own`, `shrink`; `feed`, `runs`. Measured: `paced`.
+//! The comparison with the proved side: `protocol`, `reply`, `generate`, `compare`, `own`, `shrink`; `feed`, `runs`. Measured: `paced`,
+//! `questions`, `timed`.
 
 pub mod ask;
 pub mod compare;
@@ -20,8 +21,10 @@ pub mod pack;
 pub mod print;
 pub mod program;
 pub mod protocol;
+pub mod questions;
 pub mod random;
 pub mod reply;
 pub mod runs;
 pub mod shrink;
 pub mod text;
+pub mod timed;

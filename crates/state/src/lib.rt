@@ -157,25 +157,7 @@ pub fn buffer_push(buffered: &mut [u16; 32], buffers: &mut [u8; 4], t: Thread, x
     buffers[at] = n + 1;
 }
 
-// A second table is built beside xs: the same but that the `moves` entries behind the slot `from` stand one slot lower, and the last of
-// their slots is blank.
-fn built_without(xs: [u16; 32], from: usize, moves: usize) -> [u16; 32]
-    requires { ⌜ from + moves < 32 ⌝ }
-    ensures { λ r. ⌜ r ≡ closed 0 xs from moves ⌝ }
-{
-    let mut ys = xs;
-    let mut a = from;
-    let mut left = moves;
-    while 0 < left {
-        ys[a] = xs[a + 1];
-        a += 1;
-        left -= 1;
-    }
-    ys[a] = 0;
-    ys
-}
-
-// The entry at place i leaves the buffer of t.
+// The entry at place i leaves the buffer of t: each younger entry moves one slot down, within the one table, and the older ones stay.
 pub fn buffer_remove(buffered: &mut [u16; 32], buffers: &mut [u8; 4], t: Thread, i: u8)
     requires { ⌜ Buffers (now buffered) (now buffers) ⌝ }
     requires { ⌜ (t .0 < threads) × (i < length (bufferOf (now buffered) (now buffers) (t .0))) ⌝ }
@@ -183,13 +165,14 @@ pub fn buffer_remove(buffered: &mut [u16; 32], buffers: &mut [u8; 4], t: Thread,
 {
     let at = t.0 as usize;
     let n = buffers[at];
-    let old = *buffered;
-    let new = built_without(
-        old,
-        at * State::BUFFER_ROOM + (i as usize),
-        (n - 1 - i) as usize,
-    );
-    *buffered = new;
+    let mut a = at * State::BUFFER_ROOM + (i as usize);
+    let mut younger = (n - 1 - i) as usize;
+    while 0 < younger {
+        buffered[a] = buffered[a + 1];
+        a += 1;
+        younger -= 1;
+    }
+    buffered[a] = 0;
     buffers[at] = n - 1;
 }
 

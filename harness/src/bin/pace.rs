@@ -13,30 +13,15 @@ use harness::paced::{PACED_RUN, PACED_TEXT, PACED_TIMES};
 use harness::pack::packed;
 use harness::program::{Question, Want};
 use harness::protocol::{Kind, Request};
+use harness::questions::{BASE, ONE_RUN};
 use harness::text;
+use harness::timed::{shortest, timed};
 use std::hint::black_box;
-use std::io::Write;
 use std::path::Path;
-use std::process::{Command, Stdio};
-use std::time::{Duration, Instant};
+use std::time::Instant;
 
 const TIMES: usize = 5;
 const TEXT_TIMES: usize = 100;
-
-const ONE_RUN: &str = "threads=1\nlocs=1\nbudget=1\nwant=all\nthread=0\n";
-
-/// The three questions of the base, by letter, and four of the gallery, by name. Those that no walk ends are measured to their budget.
-const QUESTIONS: [(&str, &str); 3] = [
-    ("a", "threads=2\nlocs=2\nbudget=2000000\nwant=all\nthread=0\nop=st,0,1\nop=st,0,2\nop=st,0,3\nthread=1\nop=st,1,1\nop=st,1,2\nop=st,1,3\n"),
-    (
-        "b",
-        "threads=2\nlocs=3\nbudget=1000000\nwant=all\nthread=0\nop=st,0,42\nop=st,1,7\nthread=1\nop=ld,0,1\nop=bz,0,4\nop=fo,0\nop=fo,1\nop=sf\nop=st,2,1\n",
-    ),
-    (
-        "c",
-        "threads=1\nlocs=1\nbudget=2000000\nwant=all\nthread=0\nop=st,0,1\nop=st,0,2\nop=st,0,3\nop=st,0,4\nop=st,0,5\nop=st,0,6\nop=st,0,7\nop=st,0,8\n",
-    ),
-];
 
 /// As many requests as `answers` takes.
 const TEXTS: usize = 500;
@@ -74,21 +59,21 @@ fn main() {
 /// The tables of the walk, of the reader and of mending.
 fn pace_of_texts(gallery: &str, bench: &[String], hand: &[String], answers: &[String], simulator: &[String]) {
     let mut questions: Vec<(String, String)> =
-        QUESTIONS.iter().map(|(name, text)| (name.to_string(), text.to_string())).collect();
+        BASE.iter().map(|(name, text)| (name.to_string(), text.to_string())).collect();
     let of_gallery = |name: &str| {
         std::fs::read_to_string(Path::new(gallery).join(name).with_extension("txt")).expect("a text of the gallery")
     };
     for name in GALLERY {
         questions.push((name.to_string(), of_gallery(name)));
     }
-    let bench_start = shortest(bench, ONE_RUN.as_bytes()).0;
-    let hand_start = shortest(hand, &bytes(ONE_RUN)).0;
+    let bench_start = shortest(TIMES, bench, ONE_RUN.as_bytes()).0;
+    let hand_start = shortest(TIMES, hand, &bytes(ONE_RUN)).0;
     println!("| question | runs | bench, runs a second | by hand, runs a second | by hand, times as fast |");
     println!("|---|---|---|---|---|");
     let mut run_of_a = None;
     for (name, text) in questions {
-        let (mine, _) = shortest(bench, text.as_bytes());
-        let (other, said) = shortest(hand, &bytes(&text));
+        let (mine, _) = shortest(TIMES, bench, text.as_bytes());
+        let (other, said) = shortest(TIMES, hand, &bytes(&text));
         let runs = u64::from_le_bytes(said[..8].try_into().expect("eight bytes"));
         let mine = mine.saturating_sub(bench_start).as_secs_f64();
         let other = other.saturating_sub(hand_start).as_secs_f64();
@@ -133,7 +118,7 @@ fn pace_of_legality(pace: &[String]) {
     println!("| what | runs a second | times as long as legality alone |");
     println!("|---|---|---|");
     let seconds = |word: &str| {
-        let (time, said) = shortest(&[pace, &[word.to_string()]].concat(), &[]);
+        let (time, said) = shortest(TIMES, &[pace, &[word.to_string()]].concat(), &[]);
         assert!(!said.is_empty(), "pace: no checksum for {word}");
         time.as_secs_f64()
     };
@@ -208,26 +193,4 @@ fn for_each(command: &[String], batch: &[u8], empty: &[u8]) -> (f64, Vec<u8>) {
     let nothing = runs.iter().map(|(nothing, _)| *nothing).min().expect("at least one run");
     let (time, said) = runs.into_iter().map(|(_, run)| run).min_by_key(|(time, _)| *time).expect("at least one run");
     (time.saturating_sub(nothing).as_secs_f64() / TEXTS as f64, said)
-}
-
-/// The shortest time of a command on this input, and what it wrote.
-fn shortest(command: &[String], input: &[u8]) -> (Duration, Vec<u8>) {
-    (0..TIMES).map(|_| timed(command, input)).min_by_key(|(time, _)| *time).expect("at least one run")
-}
-
-fn timed(command: &[String], input: &[u8]) -> (Duration, Vec<u8>) {
-    let start = Instant::now();
-    let mut child = Command::new(&command[0])
-        .args(&command[1..])
-        .stdin(Stdio::piped())
-        .stdout(Stdio::piped())
-        .spawn()
-        .expect("the command");
-    let mut its_input = child.stdin.take().expect("its input");
-    // Written while the output is taken, so neither waits for the other with full hands.
-    let output = std::thread::scope(|scope| {
-        scope.spawn(move || its_input.write_all(input).expect("its input"));
-        child.wait_with_output().expect("its output")
-    });
-    (start.elapsed(), output.stdout)
 }
