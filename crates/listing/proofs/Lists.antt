@@ -1,26 +1,27 @@
 -- A listing and its program: what a loop that writes the numbers one by one has written, that the program is read off the listing again,
 -- and that there is one listing of a program.
 -- Assumes nothing.
-use Prim.Native.Nat.{ℕ, suc, _+_, _*_, _/_, _%_, _≤_, _<_}
+use Prim.Native.Nat.{ℕ, suc, _+_, _-_, _*_, _/_, _%_, _≤_, _<_}
 use mathlib.Core.Path.{_≡_, refl, ap, sym, _∙_}
 use mathlib.Core.Bool.{Bool, true, false}
 use mathlib.Core.Option.{Option, none, some}
 use mathlib.Core.List.{List, [], _∷_}
 use native.Mathlib.Nat.{div-add-mod'}
 use native.Mathlib.Omega.{arith}
-use lib.Dec.{eqb}
+use lib.Dec.{eqb, ltb}
 use lib.Arith.{digits-div, digits-mod}
 use lib.ListN.{length, getD, set, take, drop, getElem?, replicate, length-set}
 use lib.Seq.{getD-take, getD-drop, getD-set-same, getD-set-other, ext-getD}
-use borrow.Author.Tests.{eqb-true, eqb-false}
+use borrow.Author.Tests.{eqb-true, eqb-false, ltb-true, ltb-false}
 use Rattle.tables.proofs.Closed.{all-replicate}
 use Rattle.tables.proofs.Found.{found-past}
 use Rattle.names.specs.Names.{pick, threads}
 use Rattle.program.specs.Program.{Prog, progOf, mostOps}
 use Rattle.program.specs.Legal.{legal}
-use Rattle.program.specs.Kept.{threadAt, Sized}
+use Rattle.program.specs.Kept.{countAt, threadAt, Sized}
 use Rattle.program.specs.declared.Op.{Op}
 use Rattle.program.specs.declared.Program.{Program}
+use Rattle.program.proofs.Threads.{op-past, thread-past}
 use Rattle.program.proofs.Legal.{kept, found-fits, legal-width}
 use Rattle.listing.specs.Listing.{each, at, ofKind, opIn, numberOf, onto, opsIn, threadsIn, progIn, Lists, Sound, Exact}
 
@@ -136,21 +137,37 @@ module _ (p : Program) (list : List ℕ) where
             getD-set-other list i j x 0 other ∙ w .blank j (omega arith);
       }
 
-  -- a place at which no instruction is listed
-  gap-done :
-      (i : ℕ) → Written p list i → listedAt p i ≡ none → (j : ℕ) (b : Bool) → eqb j i ≡ b → j < i + 1 → Stands (getD list j 0) (listedAt p j)
-  gap-done i w s j true e below = let same : j ≡ i = eqb-true j i e in rw (same, w .blank i (omega arith), s) stands-none
-  gap-done i w s j false e below =
-      let other : j ≡ i → ⊥ = eqb-false j i e in
-      w .done j (omega arith)
+  -- places at which no instruction is listed
+  past-done :
+      (i m : ℕ) → Written p list i → ((j : ℕ) → i ≤ j → j < m → listedAt p j ≡ none) → (j : ℕ) (b : Bool) → ltb j i ≡ b → j < m
+      → Stands (getD list j 0) (listedAt p j)
+  past-done i m w s j true e below = w .done j (ltb-true j i e)
+  past-done i m w s j false e below = let past : i ≤ j = ltb-false j i e in rw (w .blank j past, s j past below) stands-none
 
-  pub written-gap : (i : ℕ) → Written p list i → listedAt p i ≡ none → Written p list (i + 1)
-  written-gap i w s =
+  written-past : (i m : ℕ) → i ≤ m → Written p list i → ((j : ℕ) → i ≤ j → j < m → listedAt p j ≡ none) → Written p list m
+  written-past i m h w s =
       record {
         long = w .long;
-        done = λ j below. gap-done i w s j (eqb j i) refl below;
+        done = λ j below. past-done i m w s j (ltb j i) refl below;
         blank = λ j past. w .blank j (omega arith);
       }
+
+  -- those of a thread behind its last instruction
+  pub written-thread : (t n : ℕ) → t < p .threads → countAt p t ≡ n → n ≤ 8 → Written p list (t * 9 + n) → Written p list ((t + 1) * 9)
+  written-thread t n h e few w =
+      written-past (t * 9 + n) ((t + 1) * 9) (omega arith) w
+      (λ j past below.
+      let at-j : t * 9 + (j - t * 9) ≡ j = omega arith in
+      let none-there : listedAt p (t * 9 + (j - t * 9)) ≡ none = listed-at p t (j - t * 9) (omega arith) ∙ op-past p t (j - t * 9) h (omega arith) in
+      rw at-j at none-there)
+
+  -- those of the threads that are not there
+  no-thread-at : (j : ℕ) → p .threads ≤ j / 9 → listedAt p j ≡ none
+  unfolding listedAt
+  no-thread-at j h = rw (thread-past p (j / 9) h)
+
+  pub written-threads : (n : ℕ) → p .threads ≤ n → n ≤ 4 → Written p list (n * 9) → Written p list 36
+  written-threads n past few w = written-past (n * 9) 36 (omega arith) w (λ j from below. no-thread-at j (omega arith))
 
   -- where all are written it is a listing of the program
   pub written-at : (i : ℕ) → Written p list i → 36 ≤ i → (t k : ℕ) → t < 4 → k ≤ 8 → Stands (at list t k) (getElem? (threadAt p t) k)
@@ -179,7 +196,3 @@ module _ (p : Program) (list : List ℕ) where
         let wide : length (progOf p .threads) ≡ p .threads = legal-width p h s in
         let few : p .threads ≤ 4 = kept p h .few-threads in
         rw wide at (lists-in list (progOf p) l (omega arith) (kept p h .short))
-
-    -- no instruction is listed behind the eight places that a thread has
-    pub ninth : (t : ℕ) → listedAt p (t * 9 + 8) ≡ none
-    ninth t = listed-at p t 8 (omega arith) ∙ found-past (threadAt p t) 8 (kept p h .short t)

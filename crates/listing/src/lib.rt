@@ -7,8 +7,6 @@ ghost use Prim.Native.Nat.{_<_, _≤_};
 ghost use Rattle.names.specs.Names.{threads, locations, registers};
 ghost use Rattle.program.specs.Program.{progOf, mostOps, fetchedOf};
 ghost use Rattle.program.specs.Legal.{legal};
-ghost use Rattle.program.specs.Kept.{threadAt};
-ghost use lib.ListN.{getElem?};
 ghost use Rattle.listing.specs.Listing.{numberIs, Parts, locIn, regIn, lowIn, highIn, opIn, numberFor, numberOf, Named, at as numberAt, progIn, Lists, Sound, Exact};
 use names::Loc;
 use names::Reg;
@@ -16,7 +14,6 @@ use names::Thread;
 use program::Fetched;
 use program::Op;
 use program::Program;
-use program::op_at;
 
 // Thread t owns the nine numbers from 9t on: those of its instructions, and 0 behind them, of which there is at least one.
 pub const EACH: usize = 9;
@@ -93,19 +90,7 @@ pub fn op_of(n: u32) -> Fetched
     }
 }
 
-fn number_at(p: Program, t: u8, k: u8) -> u32
-    requires { ⌜ legal p ≡ true ⌝ }
-    ensures { λ r. ⌜ opIn r ≡ getElem? (threadAt p t) k ⌝ }
-    ensures { λ r. ⌜ r ≡ numberOf (getElem? (threadAt p t) k) ⌝ }
-{
-    let f = op_at(p, Thread(t), k);
-    match f {
-        Fetched::Found(o) => number_of(o),
-        Fetched::Past => 0,
-    }
-}
-
-// The listing of a program.
+// The listing of a program. Its cells are copied once, and those that are used are looked at.
 pub fn listed(p: Program) -> [u32; 36]
     requires { ⌜ legal p ≡ true ⌝ }
     ensures { λ r. ⌜ Lists r (progOf p) ⌝ }
@@ -113,12 +98,17 @@ pub fn listed(p: Program) -> [u32; 36]
     ensures { λ r. ⌜ progIn r (p .threads) (p .locs) ≡ progOf p ⌝ }
     ensures { λ r. ⌜ Exact r (progOf p) ⌝ }
 {
+    let cells = p.cells;
+    let counts = p.counts;
     let mut list = [0u32; 36];
     let mut t: u8 = 0;
-    while t < Thread::LIMIT {
+    while t < p.threads {
+        let n = counts[t as usize];
         let mut k: u8 = 0;
-        while k < Program::ROOM {
-            list[(t as usize) * EACH + (k as usize)] = number_at(p, t, k);
+        while k < n {
+            let cell = cells[(t * Program::ROOM + k) as usize];
+            let op = cell.op;
+            list[(t as usize) * EACH + (k as usize)] = number_of(op);
             k += 1;
         }
         t += 1;

@@ -1,10 +1,11 @@
-//! Measures two builds of bench beside each other: `beside OLD.. -- NEW.. -- GAUGED OLD.. -- GAUGED NEW..`, their command lines, and the same with
-//! pace/gauge.c loaded before them. Each question is run by both in turn, fifteen times; the shortest time counts, less that of a question with one
-//! run. Both must answer the same.
+//! Measures two trees of the repository beside each other: `beside OLD NEW GAUGE LAUNCHER..`, two folders whose programs are built, pace/gauge.c built
+//! as a library, and the command that runs a program, which ends in ld.so's own words. Each thing is done by both in turn, fifteen times; the shortest
+//! time counts, less that of a question with one run, or of judging nothing. Both must answer the same.
 
 use harness::questions::{deepest, many_fo, BASE, ONE_RUN};
 use harness::timed::timed;
 use std::io::Write;
+use std::path::Path;
 use std::process::{Command, Stdio};
 use std::time::Duration;
 
@@ -12,38 +13,58 @@ const TIMES: usize = 15;
 
 fn main() {
     let words: Vec<String> = std::env::args().skip(1).collect();
-    let parts: Vec<&[String]> = words.split(|word| word == "--").collect();
-    let [old @ [_, ..], new @ [_, ..], gauged_old @ [_, ..], gauged_new @ [_, ..]] = parts[..] else {
-        eprintln!("usage: beside OLD.. -- NEW.. -- GAUGED OLD.. -- GAUGED NEW..");
+    let [old, new, gauge, launcher @ ..] = &words[..] else {
+        eprintln!("usage: beside OLD NEW GAUGE LAUNCHER..");
         std::process::exit(2);
     };
+    let command = |tree: &str, words: &[&str]| -> Vec<String> {
+        let program = Path::new(tree).join("target/bin").join(words[0]).to_string_lossy().into_owned();
+        launcher.iter().cloned().chain([program]).chain(words[1..].iter().map(|word| word.to_string())).collect()
+    };
+    let both = |words: &[&str], input: &str| shortest_of_both(&command(old, words), &command(new, words), input);
+
     println!("| question | old, seconds | new, seconds | new, runs for one of the old |");
     println!("|---|---|---|---|");
-    let (old_start, new_start) = both(old, new, ONE_RUN);
-    let mut questions = vec![("many fo".to_string(), many_fo())];
-    questions.extend(BASE.iter().map(|(name, text)| (name.to_string(), text.to_string())));
-    for (name, text) in questions {
-        let (old_time, new_time) = both(old, new, &text);
-        let old_time = old_time.saturating_sub(old_start).as_secs_f64();
-        let new_time = new_time.saturating_sub(new_start).as_secs_f64();
-        println!("| {name} | {old_time:.3} | {new_time:.3} | {:.2} |", old_time / new_time);
+    let start = both(&["bench"], ONE_RUN);
+    let base = BASE.iter().map(|(name, text)| (name.to_string(), text.to_string()));
+    for (name, text) in [("many fo".to_string(), many_fo())].into_iter().chain(base) {
+        println!("| {name} {}", row(both(&["bench"], &text), start));
     }
+
+    println!("\n| judging a run | old, seconds | new, seconds | new, runs for one of the old |");
+    println!("|---|---|---|---|");
+    let nothing = both(&["pace", "nothing"], "");
+    for word in ["legality", "listed", "state"] {
+        println!("| {word} {}", row(both(&["pace", word], ""), nothing));
+    }
+
     println!("\n| question | old, bytes of stack | new, bytes of stack | less |");
     println!("|---|---|---|---|");
     let deep = ["st,0,1", "fo,0"].map(|op| (format!("four threads of eight {op}"), deepest(op)));
     for (name, text) in [("one run".to_string(), ONE_RUN.to_string())].into_iter().chain(deep) {
-        let (old, new) = (stack(gauged_old, &text), stack(gauged_new, &text));
+        let [old, new] = [old, new].map(|tree| {
+            let plain = command(tree, &["bench"]);
+            let (program, launcher) = plain.split_last().expect("a program");
+            let gauged = [launcher, &["--preload".to_string(), gauge.clone(), program.clone()]].concat();
+            stack(&gauged, &text)
+        });
         println!("| {name} | {old} | {new} | {} |", old - new);
     }
 }
 
-/// The shortest times of both.
-fn both(old: &[String], new: &[String], text: &str) -> (Duration, Duration) {
+/// The seconds of both, less those to start, and their ratio.
+fn row((old, new): (Duration, Duration), (old_start, new_start): (Duration, Duration)) -> String {
+    let old = old.saturating_sub(old_start).as_secs_f64();
+    let new = new.saturating_sub(new_start).as_secs_f64();
+    format!("| {old:.3} | {new:.3} | {:.2} |", old / new)
+}
+
+fn shortest_of_both(old: &[String], new: &[String], input: &str) -> (Duration, Duration) {
     let mut shortest = (Duration::MAX, Duration::MAX);
     for _ in 0..TIMES {
-        let (old_time, old_said) = timed(old, text.as_bytes());
-        let (new_time, new_said) = timed(new, text.as_bytes());
-        assert!(old_said == new_said && !old_said.is_empty(), "the two builds answer differently:\n{text}");
+        let (old_time, old_said) = timed(old, input.as_bytes());
+        let (new_time, new_said) = timed(new, input.as_bytes());
+        assert!(old_said == new_said && !old_said.is_empty(), "the two answer differently:\n{input}");
         shortest = (shortest.0.min(old_time), shortest.1.min(new_time));
     }
     shortest
