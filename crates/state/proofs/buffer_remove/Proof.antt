@@ -1,9 +1,9 @@
 -- `state::buffer_remove` meets its contract: the younger entries move one slot down within the buffer's own slots, and the count falls by one. The
--- loop's invariant is `Closing`: no slot in front of the leaving entry's is written, so the older entries stand as they stood, and there is one turn
--- for each younger entry. The measure is how many of these are left. Assumes nothing.
-use Prim.Native.Nat.{_+_, _<_, _≤_}
+-- loop's invariant is `Closing`, which `only-younger` says in the buffer's words; the measure is how many younger entries are left. Assumes nothing.
+use Prim.Native.Nat.{_+_, _*_, _<_, _≤_}
+use mathlib.Core.Path.{_≡_}
 use native.Mathlib.Omega.{arith}
-use lib.ListN.{getD}
+use lib.ListN.{getD, take}
 use Rattle.tables.proofs.Closing.{Closing, closing-begins, closing-turn, closing-ends}
 use Rattle.state.proofs.Reading.{buffer-count, buffer-room}
 use Rattle.state.proofs.Changes.{buffer-remove-is}
@@ -50,9 +50,21 @@ cast-younger c = omega (arith, held (c .before .before))
 loop-holds : tie.Need-loop-holds Inv-loop μ-loop
 loop-holds c = closing-begins _ _ _ _
 
--- the slots of the entries to be moved are the buffer's own
+-- at each turn: the slot that is written is the leaving entry's or one behind it, as many turns are left as younger entries are to be moved, up to the
+-- youngest, and all slots in front of the leaving entry's, the older entries' among them, are as they were
+pub only-younger :
+    (c : tie.At-loop Inv-loop μ-loop)
+    → let b = c .before .before .before .args in
+    let row = b .t .0 * 8 in
+    (row + b .i ≤ c .loop .a) × (c .loop .a + c .loop .younger + 1 ≡ row + getD (b .buffers .now) (b .t .0) 0)
+    × (take (row + b .i) (c .loop .buffered) ≡ take (row + b .i) (b .buffered .now))
+only-younger c =
+    let i = c .loop .inv in
+    (i .behind, omega (arith, held (c .before .before .before), i .turns), i .older)
+
+-- so no slot behind the table is read
 within : (c : tie.At-loop Inv-loop μ-loop) → c .loop .a + c .loop .younger < 32
-within c = omega (arith, held (c .before .before .before), c .loop .inv .turns)
+within c = omega (arith, held (c .before .before .before), only-younger c .1)
 
 add-buffered : tie.Need-add-buffered Inv-loop μ-loop
 add-buffered c = omega (arith, within (c .before))
@@ -79,7 +91,7 @@ loop-less : tie.Need-loop-less Inv-loop μ-loop
 loop-less c = omega arith
 
 loop-again : tie.Need-loop-again Inv-loop μ-loop
-loop-again c = let l = c .before .before .loop in closing-turn _ _ _ _ (l .buffered) (l .a) (l .younger) (l .inv) (c .before .loop-test .taken)
+loop-again c = let l = c .before .before .loop in closing-turn _ _ _ _ (l .buffered) (l .a) (l .younger) (l .inv) (omega arith)
 
 mul-buffered-3 : tie.Need-mul-buffered-3 Inv-loop μ-loop
 mul-buffered-3 c = omega (arith, within (c .before))
@@ -98,7 +110,7 @@ returns c =
     let b = c .before .before .before .before in
     let l = c .before .loop in
     buffer-remove-is (b .args .buffered .now) (b .args .buffers .now) (b .pre .0) (b .args .t .0) (b .pre .1 .0) _ (b .args .i)
-    (closing-ends _ _ _ _ (l .buffered) (l .a) (l .younger) (l .inv) (c .loop-test .left)) (held b .0)
+    (closing-ends _ _ _ _ (l .buffered) (l .a) (l .younger) (l .inv) (omega arith)) (held b .0)
 
 pub buffer-remove-spec : {M : Type 1} → statement M
 buffer-remove-spec =
