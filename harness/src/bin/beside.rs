@@ -2,6 +2,7 @@
 //! as a library, and the command that runs a program, which ends in ld.so's own words. Each thing is done by both in turn, fifteen times; the shortest
 //! time counts, less that of a question with one run, or of judging nothing. Both must answer the same.
 
+use harness::paced::PACED_TIMES;
 use harness::questions::{deepest, many_fo, BASE, ONE_RUN};
 use harness::timed::timed;
 use std::io::Write;
@@ -23,19 +24,20 @@ fn main() {
     };
     let both = |words: &[&str], input: &str| shortest_of_both(&command(old, words), &command(new, words), input);
 
-    println!("| question | old, seconds | new, seconds | new, runs for one of the old |");
-    println!("|---|---|---|---|");
+    println!("| question | runs | old, runs a second | new, runs a second | new, times as fast |");
+    println!("|---|---|---|---|---|");
     let start = both(&["bench"], ONE_RUN);
     let base = BASE.iter().map(|(name, text)| (name.to_string(), text.to_string()));
     for (name, text) in [("many fo".to_string(), many_fo())].into_iter().chain(base) {
-        println!("| {name} {}", row(both(&["bench"], &text), start));
+        let walked = both(&["bench"], &text);
+        println!("{}", row(&name, runs(&walked.said), &walked, &start));
     }
 
-    println!("\n| judging a run | old, seconds | new, seconds | new, runs for one of the old |");
-    println!("|---|---|---|---|");
+    println!("\n| judging a run | runs | old, runs a second | new, runs a second | new, times as fast |");
+    println!("|---|---|---|---|---|");
     let nothing = both(&["pace", "nothing"], "");
     for word in ["legality", "listed", "state"] {
-        println!("| {word} {}", row(both(&["pace", word], ""), nothing));
+        println!("{}", row(word, PACED_TIMES, &both(&["pace", word], ""), &nothing));
     }
 
     println!("\n| question | old, bytes of stack | new, bytes of stack | less |");
@@ -52,22 +54,36 @@ fn main() {
     }
 }
 
-/// The seconds of both, less those to start, and their ratio.
-fn row((old, new): (Duration, Duration), (old_start, new_start): (Duration, Duration)) -> String {
-    let old = old.saturating_sub(old_start).as_secs_f64();
-    let new = new.saturating_sub(new_start).as_secs_f64();
-    format!("| {old:.3} | {new:.3} | {:.2} |", old / new)
+/// The shortest time of each, and what both said.
+struct Both {
+    old: Duration,
+    new: Duration,
+    said: Vec<u8>,
 }
 
-fn shortest_of_both(old: &[String], new: &[String], input: &str) -> (Duration, Duration) {
-    let mut shortest = (Duration::MAX, Duration::MAX);
+fn shortest_of_both(old: &[String], new: &[String], input: &str) -> Both {
+    let mut shortest = Both { old: Duration::MAX, new: Duration::MAX, said: vec![] };
     for _ in 0..TIMES {
         let (old_time, old_said) = timed(old, input.as_bytes());
         let (new_time, new_said) = timed(new, input.as_bytes());
         assert!(old_said == new_said && !old_said.is_empty(), "the two answer differently:\n{input}");
-        shortest = (shortest.0.min(old_time), shortest.1.min(new_time));
+        shortest = Both { old: shortest.old.min(old_time), new: shortest.new.min(new_time), said: new_said };
     }
     shortest
+}
+
+/// A row of a table: how many runs a second each does, less the time to start, and their ratio.
+fn row(name: &str, runs: u32, took: &Both, start: &Both) -> String {
+    let old = took.old.saturating_sub(start.old).as_secs_f64();
+    let new = took.new.saturating_sub(start.new).as_secs_f64();
+    format!("| {name} | {runs} | {:.0} | {:.0} | {:.2} |", f64::from(runs) / old, f64::from(runs) / new, old / new)
+}
+
+/// How many runs bench has walked: all that there are, or as many as the budget.
+fn runs(said: &[u8]) -> u32 {
+    let said = String::from_utf8_lossy(said);
+    let number = said.lines().find_map(|line| line.strip_prefix("runs=").or_else(|| line.strip_prefix("budget=")));
+    number.expect("a number of runs").parse().expect("a number")
 }
 
 /// What the gauge says on standard error: the bytes of stack.
