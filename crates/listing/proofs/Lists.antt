@@ -88,7 +88,7 @@ exact-once xs ys p a b =
 abbrev pub Stands : ℕ → Option Op → Type 0
 Stands x o = (opIn x ≡ o) × (x ≡ numberOf o)
 
-pub stands-none : Stands 0 none
+stands-none : Stands 0 none
 unfolding numberOf
 stands-none = (zero-in, refl)
 
