@@ -1,6 +1,6 @@
 //! The two questions, answered by walking every run in dictionary order.
 
-use crate::machine::{step, State, Stop, LAST_CODE};
+use crate::machine::{step, State, LAST_CODE};
 use crate::program::{Program, Question, Want};
 use std::collections::BTreeSet;
 
@@ -34,7 +34,6 @@ struct Walk<'a> {
 enum End {
     Found,
     OverBudget,
-    NoRoom,
 }
 
 impl Walk<'_> {
@@ -52,14 +51,10 @@ impl Walk<'_> {
             }
         }
         for code in 0..=LAST_CODE {
-            match step(self.program, state, code) {
-                Ok(next) => {
-                    self.run.push(code);
-                    self.visit(&next)?;
-                    self.run.pop();
-                }
-                Err(Stop::NotAllowed) => (),
-                Err(Stop::NoRoom) => return Err(End::NoRoom),
+            if let Ok(next) = step(self.program, state, code) {
+                self.run.push(code);
+                self.visit(&next)?;
+                self.run.pop();
             }
         }
         Ok(())
@@ -85,7 +80,6 @@ pub fn ask(question: &Question, lent: &mut [u8]) -> Answer {
     };
     let end = walk.visit(&State::start(&question.program));
     let (answer, bytes) = match (end, walk.wanted) {
-        (Err(End::NoRoom), _) => return Answer::Refused { number: 11 },
         (Err(End::OverBudget), _) => return Answer::Over { budget: question.budget },
         (Err(End::Found), _) => (Answer::Reached { place: walk.runs, length: walk.run.len() }, walk.run),
         (Ok(()), Some(_)) => (Answer::Never { runs: walk.runs }, Vec::new()),

@@ -1,7 +1,7 @@
 //! A list of codes: the index of the first one that is not allowed; the state after the longest allowed beginning; and both at once, as
 //! document 01 has it. Each of the three walks the list by itself, so that the tests can hold them beside each other.
 
-use crate::machine::{step, State, Stop};
+use crate::machine::{step, NotAllowed, State};
 use crate::program::{Program, MAX_LOCS, MAX_THREADS, REGISTERS};
 
 /// What stands after the last code. Unused locations, registers and threads read 0.
@@ -24,11 +24,10 @@ impl Followed {
     }
 }
 
-/// A refusal: 6, 11, or 10 with the index of the code.
+/// A refusal: 6, or 10 with the index of the code.
 #[derive(Clone, Copy, Debug, PartialEq, Eq)]
 pub enum NotFollowed {
     BreaksLimit,
-    NoRoom,
     NotAllowed { index: usize },
 }
 
@@ -38,41 +37,24 @@ pub fn follow(program: &Program, codes: &[u8]) -> Result<Followed, NotFollowed> 
     }
     let mut state = State::start(program);
     for (index, &code) in codes.iter().enumerate() {
-        state = step(program, &state, code).map_err(|stop| match stop {
-            Stop::NotAllowed => NotFollowed::NotAllowed { index },
-            Stop::NoRoom => NotFollowed::NoRoom,
-        })?;
+        state = step(program, &state, code).map_err(|NotAllowed| NotFollowed::NotAllowed { index })?;
     }
     Ok(Followed::of(program, &state))
 }
 
-/// A refusal of what `follow` is split into: 6, or 11 if that is met before any code that is not allowed.
-#[derive(Clone, Copy, Debug, PartialEq, Eq)]
-pub enum Unanswered {
-    BreaksLimit,
-    NoRoom,
-}
-
-impl Unanswered {
-    pub fn number(self) -> u8 {
-        match self {
-            Unanswered::BreaksLimit => 6,
-            Unanswered::NoRoom => 11,
-        }
-    }
-}
+/// The number of the only refusal of what `follow` is split into.
+const BREAKS_LIMIT: u8 = 6;
 
 /// The index of the first code that is not allowed, or that there is none.
-pub fn legality(program: &Program, codes: &[u8]) -> Result<Option<usize>, Unanswered> {
+pub fn legality(program: &Program, codes: &[u8]) -> Result<Option<usize>, u8> {
     if !program.keeps_limits() {
-        return Err(Unanswered::BreaksLimit);
+        return Err(BREAKS_LIMIT);
     }
     let mut state = State::start(program);
     for (index, &code) in codes.iter().enumerate() {
         match step(program, &state, code) {
             Ok(next) => state = next,
-            Err(Stop::NotAllowed) => return Ok(Some(index)),
-            Err(Stop::NoRoom) => return Err(Unanswered::NoRoom),
+            Err(NotAllowed) => return Ok(Some(index)),
         }
     }
     Ok(None)
@@ -86,17 +68,16 @@ pub struct Beginning {
 }
 
 /// The longest allowed beginning: it is never longer than the list, and nothing behind it is looked at but one code.
-pub fn longest(program: &Program, codes: &[u8]) -> Result<Beginning, Unanswered> {
+pub fn longest(program: &Program, codes: &[u8]) -> Result<Beginning, u8> {
     if !program.keeps_limits() {
-        return Err(Unanswered::BreaksLimit);
+        return Err(BREAKS_LIMIT);
     }
     let mut state = State::start(program);
     let mut length = 0;
     while length < codes.len() {
         state = match step(program, &state, codes[length]) {
             Ok(next) => next,
-            Err(Stop::NotAllowed) => break,
-            Err(Stop::NoRoom) => return Err(Unanswered::NoRoom),
+            Err(NotAllowed) => break,
         };
         length += 1;
     }

@@ -10,8 +10,9 @@ mod questions;
 use crate::protocol::{Kind, Request};
 use crate::random::Random;
 
+pub use codes::allowed_walk_from;
 pub use inputs::{fixed_inputs, input, large_input};
-pub use programs::{any_program, small_program};
+pub use programs::{any_program, full_program, small_program};
 
 /// Walks of the comparison end behind this many runs.
 pub const MOST_RUNS: u64 = 1500;

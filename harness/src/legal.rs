@@ -32,7 +32,7 @@ pub fn split(input: &[u8]) -> (Vec<&[u8]>, Vec<&[u8]>) {
 
 /// The answer to one line, which is the `at`-th of the input.
 fn answer(program: &Program, line: &[u8], at: usize) -> String {
-    let judged = read_run(line).and_then(|codes| legality(program, &codes).map_err(|unanswered| unanswered.number()));
+    let judged = read_run(line).and_then(|codes| legality(program, &codes));
     match judged {
         Ok(None) => "answer=legal\n".to_string(),
         Ok(Some(index)) => format!("answer=illegal,{index}\n"),

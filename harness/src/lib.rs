@@ -1,5 +1,5 @@
-//! A second source for the crash bench, written from document 01, with request 2's cas; what mends a text, from the words of request 1; whether
-//! runs are legal, and the state after a run, from those of request 3.
+//! A second source for the crash bench, written from document 01, with request 2's cas and the refusals that request 5 leaves; what mends a text,
+//! from the words of request 1; whether runs are legal, and the state after a run, from those of request 3.
 //!
 //! The simulator: `program`, `text`, `machine`, `ask`, `follow`, `print`; `mend`; `legal`. Two faster ways to count: `fast` and `hand`.
 //! The comparison with the proved side: `protocol`, `reply`, `generate`, `compare`, `own`, `shrink`; `feed`, `runs`. Measured: `paced`,

@@ -1,11 +1,10 @@
 //! The storage machine: its state, and what each code does to it. To be read beside "The machine" of document 01, and
-//! request 2 of document 02: a cas waits as faa does, whether it stores or not.
+//! two requests of document 02. By request 2 a cas waits as faa does, whether it stores or not. By request 5 no step asks
+//! how much a buffer or a queue holds: tests/room.rs looks at how much they ever do.
 
 use crate::program::{Op, Program, REGISTERS};
 use std::collections::VecDeque;
 
-pub const BUFFER_ROOM: usize = 8;
-pub const QUEUE_ROOM: usize = 32;
 /// No code above this one is ever allowed.
 pub const LAST_CODE: u8 = 69;
 
@@ -41,13 +40,9 @@ pub struct State {
     pub memory: Vec<u8>,
 }
 
-/// Why a code makes no step.
+/// A code that makes no step.
 #[derive(Clone, Copy, Debug, PartialEq, Eq)]
-pub enum Stop {
-    NotAllowed,
-    /// It would be allowed, but its buffer or queue is full.
-    NoRoom,
-}
+pub struct NotAllowed;
 
 impl State {
     /// Everything at 0, all buffers and queues empty.
@@ -82,59 +77,50 @@ impl State {
     }
 
     /// What mf, faa and every cas need: an empty buffer and no fo entry of one's own in any queue.
-    fn fenced(&self, t: usize) -> Result<(), Stop> {
+    fn fenced(&self, t: usize) -> Result<(), NotAllowed> {
         if self.threads[t].buffer.is_empty() && self.no_mark_of(t) {
             Ok(())
         } else {
-            Err(Stop::NotAllowed)
+            Err(NotAllowed)
         }
     }
 
-    fn push_buffer(&mut self, t: usize, entry: Buffered) -> Result<(), Stop> {
-        if self.threads[t].buffer.len() == BUFFER_ROOM {
-            return Err(Stop::NoRoom);
-        }
+    fn push_buffer(&mut self, t: usize, entry: Buffered) {
         self.threads[t].buffer.push_back(entry);
-        Ok(())
     }
 
-    fn push_queue(&mut self, loc: u8, entry: Queued) -> Result<(), Stop> {
-        let queue = &mut self.queues[usize::from(loc)];
-        if queue.len() == QUEUE_ROOM {
-            return Err(Stop::NoRoom);
-        }
-        queue.push_back(entry);
-        Ok(())
+    fn push_queue(&mut self, loc: u8, entry: Queued) {
+        self.queues[usize::from(loc)].push_back(entry);
     }
 }
 
-/// The state after one code, or why there is none.
-pub fn step(program: &Program, state: &State, code: u8) -> Result<State, Stop> {
+/// The state after one code, if it is allowed.
+pub fn step(program: &Program, state: &State, code: u8) -> Result<State, NotAllowed> {
     let code = usize::from(code);
     match code {
         0..=3 => instruction(program, state, code),
         16..=47 => leave_buffer(state, (code - 16) / 8, (code - 16) % 8),
         64..=69 => leave_queue(state, code - 64),
-        _ => Err(Stop::NotAllowed),
+        _ => Err(NotAllowed),
     }
 }
 
 /// Codes 0 to 3: thread t does its next instruction.
-fn instruction(program: &Program, state: &State, t: usize) -> Result<State, Stop> {
-    let thread = state.threads.get(t).ok_or(Stop::NotAllowed)?;
-    let op = *program.threads[t].get(thread.place).ok_or(Stop::NotAllowed)?;
+fn instruction(program: &Program, state: &State, t: usize) -> Result<State, NotAllowed> {
+    let thread = state.threads.get(t).ok_or(NotAllowed)?;
+    let op = *program.threads[t].get(thread.place).ok_or(NotAllowed)?;
 
     let mut next = state.clone();
     next.threads[t].place += 1;
     match op {
-        Op::Store { loc, value } => next.push_buffer(t, Buffered::Write { loc, value })?,
+        Op::Store { loc, value } => next.push_buffer(t, Buffered::Write { loc, value }),
         Op::StoreRegister { loc, reg } => {
             let value = thread.registers[usize::from(reg)];
-            next.push_buffer(t, Buffered::Write { loc, value })?;
+            next.push_buffer(t, Buffered::Write { loc, value });
         }
-        Op::StoreFence => next.push_buffer(t, Buffered::StoreFence)?,
-        Op::Flush { loc } => next.push_buffer(t, Buffered::Flush { loc })?,
-        Op::FlushOpt { loc } => next.push_buffer(t, Buffered::FlushOpt { loc })?,
+        Op::StoreFence => next.push_buffer(t, Buffered::StoreFence),
+        Op::Flush { loc } => next.push_buffer(t, Buffered::Flush { loc }),
+        Op::FlushOpt { loc } => next.push_buffer(t, Buffered::FlushOpt { loc }),
         Op::Load { reg, loc } => {
             next.threads[t].registers[usize::from(reg)] = state.load(t, loc);
         }
@@ -148,14 +134,14 @@ fn instruction(program: &Program, state: &State, t: usize) -> Result<State, Stop
             state.fenced(t)?;
             let old = state.load(t, loc);
             let value = old.wrapping_add(add);
-            next.push_queue(loc, Queued::Write { value })?;
+            next.push_queue(loc, Queued::Write { value });
             next.threads[t].registers[usize::from(reg)] = old;
         }
         Op::Cas { reg, loc, expected, new } => {
             state.fenced(t)?;
             let old = state.load(t, loc);
             if old == expected {
-                next.push_queue(loc, Queued::Write { value: new })?;
+                next.push_queue(loc, Queued::Write { value: new });
             }
             next.threads[t].registers[usize::from(reg)] = old;
         }
@@ -164,26 +150,26 @@ fn instruction(program: &Program, state: &State, t: usize) -> Result<State, Stop
 }
 
 /// Codes 16+8t+p: the entry at place p leaves the buffer of thread t.
-fn leave_buffer(state: &State, t: usize, p: usize) -> Result<State, Stop> {
-    let thread = state.threads.get(t).ok_or(Stop::NotAllowed)?;
-    let entry = *thread.buffer.get(p).ok_or(Stop::NotAllowed)?;
+fn leave_buffer(state: &State, t: usize, p: usize) -> Result<State, NotAllowed> {
+    let thread = state.threads.get(t).ok_or(NotAllowed)?;
+    let entry = *thread.buffer.get(p).ok_or(NotAllowed)?;
     if p > 0 && !may_overtake(&thread.buffer, p) {
-        return Err(Stop::NotAllowed);
+        return Err(NotAllowed);
     }
 
     let mut next = state.clone();
     next.threads[t].buffer.remove(p);
     match entry {
-        Buffered::Write { loc, value } => next.push_queue(loc, Queued::Write { value })?,
-        Buffered::FlushOpt { loc } => next.push_queue(loc, Queued::Mark { thread: t })?,
+        Buffered::Write { loc, value } => next.push_queue(loc, Queued::Write { value }),
+        Buffered::FlushOpt { loc } => next.push_queue(loc, Queued::Mark { thread: t }),
         Buffered::Flush { loc } => {
             if !state.queues[usize::from(loc)].is_empty() {
-                return Err(Stop::NotAllowed);
+                return Err(NotAllowed);
             }
         }
         Buffered::StoreFence => {
             if !state.no_mark_of(t) {
-                return Err(Stop::NotAllowed);
+                return Err(NotAllowed);
             }
         }
     }
@@ -203,9 +189,9 @@ fn may_overtake(buffer: &VecDeque<Buffered>, p: usize) -> bool {
 }
 
 /// Codes 64+L: the oldest entry of L's queue goes.
-fn leave_queue(state: &State, loc: usize) -> Result<State, Stop> {
-    let queue = state.queues.get(loc).ok_or(Stop::NotAllowed)?;
-    let oldest = *queue.front().ok_or(Stop::NotAllowed)?;
+fn leave_queue(state: &State, loc: usize) -> Result<State, NotAllowed> {
+    let queue = state.queues.get(loc).ok_or(NotAllowed)?;
+    let oldest = *queue.front().ok_or(NotAllowed)?;
     let mut next = state.clone();
     next.queues[loc].pop_front();
     if let Queued::Write { value } = oldest {

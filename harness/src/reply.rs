@@ -49,7 +49,6 @@ fn reply_follow(request: &Request) -> Vec<u8> {
     let (number, index) = match follow(&question.program, &request.codes) {
         Ok(followed) => return [&b"F"[..], &bytes_of(&followed)].concat(),
         Err(NotFollowed::BreaksLimit) => (6, 0),
-        Err(NotFollowed::NoRoom) => (11, 0),
         Err(NotFollowed::NotAllowed { index }) => (10, index),
     };
     refused_list(number, index)
@@ -63,7 +62,7 @@ fn reply_legality(request: &Request) -> Vec<u8> {
     match legality(&question.program, &request.codes) {
         Ok(None) => vec![b'L'],
         Ok(Some(index)) => with_number(b"B", index),
-        Err(unanswered) => refused_list(unanswered.number(), 0),
+        Err(number) => refused_list(number, 0),
     }
 }
 
@@ -74,7 +73,7 @@ fn reply_state(request: &Request) -> Vec<u8> {
     };
     match longest(&question.program, &request.codes) {
         Ok(Beginning { length, after }) => [with_number(b"S", length), bytes_of(&after)].concat(),
-        Err(unanswered) => refused_list(unanswered.number(), 0),
+        Err(number) => refused_list(number, 0),
     }
 }
 

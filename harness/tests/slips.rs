@@ -4,7 +4,7 @@ mod common;
 use common::{in_memory, program, question};
 use harness::ask::{ask, Answer};
 use harness::follow::{follow, Followed, NotFollowed};
-use harness::machine::{step, Buffered, Queued, State, Stop};
+use harness::machine::{step, NotAllowed, State};
 use harness::program::{Op, Program, Want};
 
 fn followed(threads: &[&str], locs: usize, codes: &[u8]) -> Followed {
@@ -119,7 +119,7 @@ fn codes_of_no_sort_are_not_allowed() {
     let program = program(&["st,0,1"], 1);
     let start = State::start(&program);
     for code in 1..=255 {
-        assert_eq!(step(&program, &start, code), Err(Stop::NotAllowed));
+        assert_eq!(step(&program, &start, code), Err(NotAllowed));
     }
     assert!(step(&program, &start, 0).is_ok());
     assert_eq!(refused_at(&["st,0,1"], 1, &[0, 0]), 1);
@@ -188,21 +188,6 @@ fn refusals_6_and_7_leave_the_buffer() {
     }
     let past = with(vec![vec![skip]], 1);
     assert_eq!(follow(&past, &[]), Err(NotFollowed::BreaksLimit));
-}
-
-#[test]
-fn a_full_buffer_or_queue_is_refusal_11() {
-    let program = program(&["st,0,1 fo,0"], 1);
-    let mut state = State::start(&program);
-    state.threads[0].buffer = vec![Buffered::StoreFence; 8].into();
-    assert_eq!(step(&program, &state, 0), Err(Stop::NoRoom));
-    state.threads[0].buffer = vec![Buffered::Write { loc: 0, value: 1 }; 8].into();
-    state.queues[0] = vec![Queued::Write { value: 2 }; 32].into();
-    assert_eq!(step(&program, &state, 16), Err(Stop::NoRoom));
-    // A step that is not allowed anyway needs no room.
-    assert_eq!(step(&program, &state, 17), Err(Stop::NotAllowed));
-    state.queues[0].pop_front();
-    assert!(step(&program, &state, 16).is_ok());
 }
 
 #[test]

@@ -5,7 +5,7 @@ mod common;
 use common::program;
 use harness::ask::{ask, Answer};
 use harness::compare::PART;
-use harness::follow::{follow, legality, longest, Beginning, NotFollowed, Unanswered};
+use harness::follow::{follow, legality, longest, Beginning, NotFollowed};
 use harness::generate::{request, Family};
 use harness::machine::LAST_CODE;
 use harness::print::BENCH_LENDS;
@@ -156,8 +156,7 @@ fn on_lists_worked_out_by_others() {
 fn a_program_that_breaks_a_limit_is_refused_before_any_code() {
     let past = Program { locs: 1, threads: vec![vec![Op::SkipIfZero { reg: 0, count: 1 }]] };
     for codes in [&[][..], &[0], &[255]] {
-        assert_eq!(legality(&past, codes), Err(Unanswered::BreaksLimit));
-        assert_eq!(longest(&past, codes), Err(Unanswered::BreaksLimit));
+        assert_eq!(legality(&past, codes), Err(6));
+        assert_eq!(longest(&past, codes), Err(6));
     }
-    assert_eq!((Unanswered::BreaksLimit.number(), Unanswered::NoRoom.number()), (6, 11));
 }

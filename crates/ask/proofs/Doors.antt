@@ -20,10 +20,10 @@ use Rattle.program.proofs.Legal.{kept}
 use Rattle.program.proofs.Threads.{thread-past}
 use Rattle.program.proofs.Tests.{both}
 use Rattle.px86.specs.declared.Refusal.{Refusal}
-use Rattle.px86.specs.declared.Refusal.the-variants.{Illegal, WrongWant, Over, TooLong, Barred, NoRoom}
+use Rattle.px86.specs.declared.Refusal.the-variants.{Illegal, WrongWant, Over, TooLong, Barred}
 use Rattle.px86.specs.Machine.{Machine, start}
-use Rattle.px86.specs.Runs.{Event, work}
-use Rattle.px86.specs.Ask.{ask, answered, within, events, eventsFrom, gather, seek, allOf, oneOf, Tally}
+use Rattle.px86.specs.Runs.{Run, work}
+use Rattle.px86.specs.Ask.{ask, answered, within, runsOf, runsFrom, gather, seek, allOf, oneOf, Tally}
 use Rattle.px86.specs.Ask.Answer.{every, reached, never, none}
 use Rattle.px86.specs.Ask.Tally.{going, known}
 use Rattle.rows.specs.Rows.{flat, Wide, Rises}
@@ -39,6 +39,7 @@ use Rattle.ask.specs.declared.Answer.the-variants as answer
 use Rattle.walk.specs.declared.note.Asking.{Asking}
 use Rattle.walk.specs.declared.note.Walked.{Walked}
 use Rattle.walk.specs.declared.note.Status.the-variants as status
+use Rattle.machine.proofs.Readying.{ready-start}
 use Rattle.walk.proofs.Holding.{either-way}
 use Rattle.walk.proofs.Onward.{square-none, work-start}
 
@@ -52,7 +53,6 @@ data Seen (q : Asking) (w : Walked) (o : List ℕ) : Tally → Type 0 where
   goes : (n : ℕ) (ms : List (List ℕ)) → Going q w o n ms → Seen q w o (going n ms)
   over : w .status ≡ status.Over → Seen q w o (known (none (Over (q .budget))))
   found : (n : ℕ) (r : List ℕ) → Reached w o n r → Seen q w o (known (reached n r))
-  full : w .status ≡ status.Full → Seen q w o (known (none NoRoom))
 
 module _ (q : Asking) (w : Walked) (o : List ℕ) where
   seen : (a : Tally) → Holds q w o a → Seen q w o a
@@ -65,7 +65,6 @@ module _ (q : Asking) (w : Walked) (o : List ℕ) where
   seen (known (none (Over b))) h = rw (h .1) (over (h .0))
   seen (known (none TooLong)) h = absurd h
   seen (known (none (Barred i))) h = absurd h
-  seen (known (none NoRoom)) h = full h
 
 -- a refusal that leaves zeros in the buffer
 module _ (q : Asking) (n : ℕ) (r : Answer) (o′ : List ℕ) (z : o′ ≡ replicate n 0) where
@@ -109,17 +108,6 @@ module _ (q : Asking) (ok : Asks q) (w : Walked) (o : List ℕ) (a : Tally) (h :
           | goes n ms g ↦ let y : _≡_ {A = ℕ} 0 1 = cc (g .status) in absurd (omega arith)
           | over k ↦ refused-ends q (length o) r o′ z (Over (q .budget)) (λ i. refl) e
           | found n c g ↦ let y : _≡_ {A = ℕ} 0 1 = cc (g .status) in absurd (omega arith)
-          | full k ↦ let y : _≡_ {A = ℕ} 0 1 = cc in absurd (omega arith)
-        ]
-
-    pub ends-full : w .status ≡ status.Full → r ≡ answer.Refused NoRoom → Ends q a r (length o) o′
-    unfolding refusedIn
-    ends-full s e =
-        elim (seen q w o a h) [
-          | goes n ms g ↦ let y : _≡_ {A = ℕ} 0 1 = cc (g .status) in absurd (omega arith)
-          | over k ↦ let y : _≡_ {A = ℕ} 0 1 = cc in absurd (omega arith)
-          | found n c g ↦ let y : _≡_ {A = ℕ} 0 1 = cc (g .status) in absurd (omega arith)
-          | full k ↦ refused-ends q (length o) r o′ z NoRoom (λ i. refl) e
         ]
 
     going-long : (n : ℕ) (ms : List (List ℕ)) → Going q w o n ms → w .long ≡ true → r ≡ answer.Refused TooLong → (b : Bool) → q .all ≡ b → Ends q (going n ms) r (length o) o′
@@ -133,7 +121,6 @@ module _ (q : Asking) (ok : Asks q) (w : Walked) (o : List ℕ) (a : Tally) (h :
           | goes n ms g ↦ going-long n ms g l e (q .all) refl
           | over k ↦ let y : _≡_ {A = ℕ} 0 1 = cc in absurd (omega arith)
           | found n c g ↦ let y : _≡_ {A = ℕ} 0 1 = cc (g .status) in absurd (omega arith)
-          | full k ↦ let y : _≡_ {A = ℕ} 0 1 = cc in absurd (omega arith)
         ]
 
     pub ends-long-run : w .long ≡ true → w .status ≡ status.Found → r ≡ answer.Refused TooLong → Ends q a r (length o) o′
@@ -142,7 +129,6 @@ module _ (q : Asking) (ok : Asks q) (w : Walked) (o : List ℕ) (a : Tally) (h :
           | goes n ms g ↦ let y : _≡_ {A = ℕ} 0 1 = cc (g .status) in absurd (omega arith)
           | over k ↦ let y : _≡_ {A = ℕ} 0 1 = cc in absurd (omega arith)
           | found n c g ↦ long-run q (length o) r o′ z n c (g .long l) e
-          | full k ↦ let y : _≡_ {A = ℕ} 0 1 = cc in absurd (omega arith)
         ]
 
   -- the list stands in the buffer
@@ -174,7 +160,6 @@ module _ (q : Asking) (ok : Asks q) (w : Walked) (o : List ℕ) (a : Tally) (h :
         | goes n ms g ↦ all-fits n ms g l e
         | over k ↦ let y : _≡_ {A = ℕ} 0 1 = cc in absurd (omega arith)
         | found n c g ↦ let y : _≡_ {A = ℕ} 0 1 = cc (g .status) in absurd (omega arith)
-        | full k ↦ let y : _≡_ {A = ℕ} 0 1 = cc in absurd (omega arith)
       ]
 
   pub ends-never : w .status ≡ status.Going → w .long ≡ false → q .all ≡ false → Ends q a (answer.Never (w .count)) (length o) o
@@ -183,7 +168,6 @@ module _ (q : Asking) (ok : Asks q) (w : Walked) (o : List ℕ) (a : Tally) (h :
         | goes n ms g ↦ none-found n ms g l e
         | over k ↦ let y : _≡_ {A = ℕ} 0 1 = cc in absurd (omega arith)
         | found n c g ↦ let y : _≡_ {A = ℕ} 0 1 = cc (g .status) in absurd (omega arith)
-        | full k ↦ let y : _≡_ {A = ℕ} 0 1 = cc in absurd (omega arith)
       ]
 
   -- the run stands in the buffer
@@ -203,7 +187,6 @@ module _ (q : Asking) (ok : Asks q) (w : Walked) (o : List ℕ) (a : Tally) (h :
         | goes n ms g ↦ let y : _≡_ {A = ℕ} 0 1 = cc (g .status) in absurd (omega arith)
         | over k ↦ let y : _≡_ {A = ℕ} 0 1 = cc in absurd (omega arith)
         | found n c g ↦ run-fits n c g l
-        | full k ↦ let y : _≡_ {A = ℕ} 0 1 = cc in absurd (omega arith)
       ]
 
 -- before the first step
@@ -221,10 +204,9 @@ module _ (p : Program) (s : State) (g : File) (b : Starts s) (e : g ≡ noRegist
         record {
           few = omega (arith, n, kept p l .few-threads);
           beyond = λ t j h u w. lists .is t j u w ∙ ap (λ (os : List Op). getElem? os j) (thread-past p t (omega arith)) ∙ refl;
-          sound = sound;
           lists = rw asks-about lists;
           asks = ok;
-          state = b .valid;
+          ready = ready-start list sound s b;
           file = rw e square-none;
         }
 
@@ -234,9 +216,9 @@ module _ (p : Program) (s : State) (g : File) (b : Starts s) (e : g ≡ noRegist
         omega (arith, work-start p l)
 
     -- the runs that are visited are all
-    pub start-events : (a : Tally) → foldl (noted (asked q list) q) a (runs (asked q list) [] (machineOf s g)) ≡ foldl (noted (progOf p) q) a (events (progOf p))
-    unfolding runs events eventsFrom start
-    start-events a = rw asks-about (ap (λ (m : Machine). foldl (noted (progOf p) q) a (runs (progOf p) [] m)) begins)
+    pub start-runs : (a : Tally) → foldl (noted (asked q list) q) a (runs (asked q list) [] (machineOf s g)) ≡ foldl (noted (progOf p) q) a (runsOf (progOf p))
+    unfolding runs runsOf runsFrom start
+    start-runs a = rw asks-about (ap (λ (m : Machine). foldl (noted (progOf p) q) a (runs (progOf p) [] m)) begins)
 
 -- a buffer of zeros holds nothing
 pub start-holds : (q : Asking) (o : List ℕ) (n : ℕ) → o ≡ replicate n 0 → Holds q (record { used = 0; count = 0; status = status.Going; long = false }) o (going 0 [])
@@ -258,14 +240,14 @@ start-holds q o n z =
       long = λ e. absurd (false≢true e);
     }
 
--- one event after the other is noted by the question
+-- one run after the other is noted by the question
 module _ (p : Prog) (q : Asking) where
-  noted-all : q .all ≡ true → (a : Tally) (es : List Event) → foldl (noted p q) a es ≡ foldl (gather p (q .budget)) a es
+  noted-all : q .all ≡ true → (a : Tally) (es : List Run) → foldl (noted p q) a es ≡ foldl (gather p (q .budget)) a es
   unfolding noted pick
   noted-all e a [] = refl
   noted-all e a (x ∷ es) = let one-more : noted p q a x ≡ gather p (q .budget) a x = rw e refl in rw one-more (noted-all e (gather p (q .budget) a x) es)
 
-  noted-one : q .all ≡ false → (a : Tally) (es : List Event) → foldl (noted p q) a es ≡ foldl (seek p (want q) (q .budget)) a es
+  noted-one : q .all ≡ false → (a : Tally) (es : List Run) → foldl (noted p q) a es ≡ foldl (seek p (want q) (q .budget)) a es
   unfolding noted pick
   noted-one e a [] = refl
   noted-one e a (x ∷ es) = let one-more : noted p q a x ≡ seek p (want q) (q .budget) a x = rw e refl in rw one-more (noted-one e (seek p (want q) (q .budget) a x) es)
@@ -310,7 +292,7 @@ module _ (p : Program) (b : Budget) where
   module _ (h : legalAsked p b ≡ true) where
     ask-all :
         (n : ℕ)
-        → ask p b all n ≡ within n (p .locs) (allOf (foldl (gather (progOf p) (b .0)) (going 0 []) (events (progOf p))))
+        → ask p b all n ≡ within n (p .locs) (allOf (foldl (gather (progOf p) (b .0)) (going 0 []) (runsOf (progOf p))))
     unfolding ask answered pick
     ask-all n = rw h refl
 
@@ -320,7 +302,7 @@ module _ (p : Program) (b : Budget) where
 
     ask-one :
         (w : List ℕ) (n : ℕ) → length w ≡ p .locs
-        → ask p b (one w) n ≡ within n (p .locs) (oneOf (foldl (seek (progOf p) w (b .0)) (going 0 []) (events (progOf p))))
+        → ask p b (one w) n ≡ within n (p .locs) (oneOf (foldl (seek (progOf p) w (b .0)) (going 0 []) (runsOf (progOf p))))
     unfolding ask answered pick progOf
     ask-one w n e = rw (h, eq-eqb (length w) (p .locs) e) refl
 
@@ -334,20 +316,20 @@ module _ (p : Program) (b : Budget) where
     module _ (q : Asking) (locs : p .locs ≡ q .locs) (budget : b .0 ≡ q .budget) where
       said-all :
           (n : ℕ) → q .all ≡ true
-          → within n (q .locs) (finished q (foldl (noted (progOf p) q) (going 0 []) (events (progOf p)))) ≡ ask p b all n
+          → within n (q .locs) (finished q (foldl (noted (progOf p) q) (going 0 []) (runsOf (progOf p)))) ≡ ask p b all n
       said-all n a =
-          rw (finished-all q a, noted-all (progOf p) q a (going 0 []) (events (progOf p)), ← locs, ← budget) (sym (ask-all n))
+          rw (finished-all q a, noted-all (progOf p) q a (going 0 []) (runsOf (progOf p)), ← locs, ← budget) (sym (ask-all n))
 
       said-one :
           (w : List ℕ) (n : ℕ) → q .all ≡ false → length w ≡ p .locs → want q ≡ w
-          → within n (q .locs) (finished q (foldl (noted (progOf p) q) (going 0 []) (events (progOf p)))) ≡ ask p b (one w) n
+          → within n (q .locs) (finished q (foldl (noted (progOf p) q) (going 0 []) (runsOf (progOf p)))) ≡ ask p b (one w) n
       said-one w n a e k =
-          rw (finished-one q a, noted-one (progOf p) q a (going 0 []) (events (progOf p)), k, ← locs, ← budget) (sym (ask-one w n e))
+          rw (finished-one q a, noted-one (progOf p) q a (going 0 []) (runsOf (progOf p)), k, ← locs, ← budget) (sym (ask-one w n e))
 
-      module _ (r : Answer) (n : ℕ) (o o′ : List ℕ) (l : length o ≡ n) (end : Ends q (foldl (noted (progOf p) q) (going 0 []) (events (progOf p))) r n o′) where
+      module _ (r : Answer) (n : ℕ) (o o′ : List ℕ) (l : length o ≡ n) (end : Ends q (foldl (noted (progOf p) q) (going 0 []) (runsOf (progOf p))) r n o′) where
         gives :
             (w : Wanted)
-            → within n (q .locs) (finished q (foldl (noted (progOf p) q) (going 0 []) (events (progOf p)))) ≡ ask p b w n
+            → within n (q .locs) (finished q (foldl (noted (progOf p) q) (going 0 []) (runsOf (progOf p)))) ≡ ask p b w n
             → (r ≡ answerOf (ask p b w (length o))) × (o′ ≡ bufferOf (ask p b w (length o)) o)
         gives w e = rw (l, ← e) (end .answer, end .buffer o l)
 

@@ -9,7 +9,7 @@ ghost use Rattle.names.specs.Names.{locations};
 ghost use Rattle.program.specs.Program.{progOf};
 ghost use Rattle.program.specs.Program.Wanted.{all, one};
 ghost use Rattle.program.specs.Legal.{legal};
-ghost use Rattle.px86.specs.Ask.{ask, Tally, events};
+ghost use Rattle.px86.specs.Ask.{ask, Tally, runsOf};
 ghost use Rattle.px86.specs.Ask.Tally.{going};
 ghost use Rattle.walk.specs.Found.{Asks, Holds, noted};
 ghost use Rattle.ask.specs.Asked.{answerOf, bufferOf, Ends};
@@ -55,7 +55,6 @@ fn finish(q: Asking, w: Walked, out: &mut [u8]) -> Answer
     let status = w.status;
     match status {
         Status::Over => refused(Refusal::Over(q.budget), out),
-        Status::Full => refused(Refusal::NoRoom, out),
         Status::Going => {
             if w.long {
                 return refused(Refusal::TooLong, out);
@@ -78,7 +77,7 @@ fn finish(q: Asking, w: Walked, out: &mut [u8]) -> Answer
 // All runs of the program are walked, from the start: the empty run is noted, and then those that extend it.
 fn walked(p: Program, q: Asking, out: &mut [u8]) -> Walked
     requires { ⌜ (legal p ≡ true) × Asks q × (p .locs ≡ q .locs) × (p .threads ≡ q .threads) ⌝ }
-    ensures { λ r. ⌜ Holds q r (now (out .exit)) (foldl (noted (progOf p) q) (going 0 []) (events (progOf p))) ⌝ }
+    ensures { λ r. ⌜ Holds q r (now (out .exit)) (foldl (noted (progOf p) q) (going 0 []) (runsOf (progOf p))) ⌝ }
 {
     clear(out);
     let mut path = [0u8; 96];
@@ -112,7 +111,7 @@ fn walked(p: Program, q: Asking, out: &mut [u8]) -> Walked
 }
 
 // The memories that some run leaves: how many runs and memories there are; and in the lent buffer the memories, smallest first, one byte for
-// each location, and 0 behind them. Or refusal 6 (the buffer is unchanged), 11, 8 or 9 (it is all 0).
+// each location, and 0 behind them. Or refusal 6 (the buffer is unchanged), 8 or 9 (it is all 0).
 pub fn ask_all(p: Program, b: Budget, out: &mut [u8]) -> Answer
     ensures answer { λ r. ⌜ r ≡ answerOf (ask p b all (length (now (out .entry)))) ⌝ }
     ensures buffer { λ _. ⌜ now (out .exit) ≡ bufferOf (ask p b all (length (now (out .entry)))) (now (out .entry)) ⌝ }
@@ -147,7 +146,7 @@ fn six(want: &[u8]) -> [u8; 6]
 
 // Whether one of the first runs, as many as the budget, leaves the wanted memory: the place and length of the first that does, and in the lent
 // buffer its codes and 0 behind them; or that no run does, with their number (the buffer is all 0). Or refusal 6 or 7 (the buffer is
-// unchanged), 11, 8 or 9 (it is all 0).
+// unchanged), 8 or 9 (it is all 0).
 pub fn ask_one(p: Program, b: Budget, want: &[u8], out: &mut [u8]) -> Answer
     ensures answer { λ r. ⌜ r ≡ answerOf (ask p b (one (now (want .entry))) (length (now (out .entry)))) ⌝ }
     ensures buffer { λ _. ⌜ now (out .exit) ≡ bufferOf (ask p b (one (now (want .entry))) (length (now (out .entry)))) (now (out .entry)) ⌝ }

@@ -16,7 +16,6 @@ use program::is_legal;
 use px86::Legality;
 use px86::Refusal;
 use state::State;
-use verdict::Verdict;
 use verdict::judge;
 
 // A listed program's codes. The last is only judged: no state is wanted behind it.
@@ -57,31 +56,26 @@ pub fn of_listing(list: &[u32; 36], codes: &[u8]) -> Legality
             Turn::Barred => {
                 return Legality::Stops(i);
             }
-            Turn::NoRoom => {
-                return Legality::Refused(Refusal::NoRoom);
-            }
         }
         i += 1;
     }
-    let v = judge(
+    if judge(
         list,
         &queued,
         &queues,
         &buffered,
         &buffers,
         &places,
-        &memory,
         codes[last],
-    );
-    match v {
-        Verdict::Allowed => Legality::Legal,
-        Verdict::Barred => Legality::Stops(last),
-        Verdict::NoRoom => Legality::Refused(Refusal::NoRoom),
+    ) {
+        Legality::Legal
+    } else {
+        Legality::Stops(last)
     }
 }
 
-// The index, from 0, of the first code that is not allowed, or that there is none; or refusal 6 (the program breaks a limit) or 11 (a step lacks
-// room). Any program and any list, of any length.
+// The index, from 0, of the first code that is not allowed, or that there is none; or refusal 6 (the program breaks a limit). Any program and any
+// list, of any length.
 pub fn legality(p: Program, codes: &[u8]) -> Legality
     ensures { λ r. ⌜ r ≡ legalityIn p (now (codes .entry)) ⌝ }
 {

@@ -72,7 +72,7 @@ fn arrived(n: usize, memory: [u8; 6], g: [[u8; 4]; 4], places: [u8; 4]) -> Reach
 }
 
 // The state after the longest beginning of a list whose codes are each allowed in their turn from the start, with its length; or refusal 6 (the
-// program breaks a limit) or 11 (a step lacks room). Any program and any list, of any length.
+// program breaks a limit). Any program and any list, of any length.
 pub fn reach(p: Program, codes: &[u8]) -> Reached
     ensures { λ r. ⌜ r ≡ reply (reachIn p (now (codes .entry))) ⌝ }
 {
@@ -108,9 +108,6 @@ pub fn reach(p: Program, codes: &[u8]) -> Reached
             }
             Turn::Barred => {
                 return arrived(i, memory, g, places);
-            }
-            Turn::NoRoom => {
-                return nothing(Refusal::NoRoom);
             }
         }
         i += 1;

@@ -21,7 +21,7 @@ use Rattle.program.specs.Program.Wanted.{all, one}
 use Rattle.program.specs.Legal.{legal, legalAsked}
 use Rattle.program.proofs.Legal.{kept}
 use Rattle.program.proofs.Tests.{both}
-use Rattle.px86.specs.declared.Refusal.the-variants.{Illegal, WrongWant, Over, TooLong, Barred, NoRoom}
+use Rattle.px86.specs.declared.Refusal.the-variants.{Illegal, WrongWant, Over, TooLong, Barred}
 use Rattle.px86.specs.Machine.{start}
 use Rattle.px86.specs.Ask.{Answer, ask}
 use Rattle.px86.specs.Ask.Answer.{every, reached, never, none}
@@ -106,7 +106,6 @@ module _ (p : Program) (b : Budget) (ok : legalAsked p b ≡ true) (st : AllStor
   all-kept (none (Over k)) h = omega (arith, budget-most, h .0)
   all-kept (none TooLong) h = tt
   all-kept (none (Barred i)) h = tt
-  all-kept (none NoRoom) h = tt
 
   one-kept : (w : List ℕ) (x : Answer) → MeansOne (progOf p) (b .0) w lent x → Kept (p .locs) lent x
   one-kept w (every n ms) h = absurd h
@@ -123,7 +122,6 @@ module _ (p : Program) (b : Budget) (ok : legalAsked p b ≡ true) (st : AllStor
   one-kept w (none (Over k)) h = omega (arith, budget-most, h .is-budget)
   one-kept w (none TooLong) h = tt
   one-kept w (none (Barred i)) h = tt
-  one-kept w (none NoRoom) h = tt
 
   ask-kept : (w : Wanted) → Kept (p .locs) lent (ask p b w lent)
   ask-kept all = all-kept (ask p b all lent) (all-exactly p b lent ok (ask p b all lent) .0 refl)

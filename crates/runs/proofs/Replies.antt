@@ -21,7 +21,7 @@ use Rattle.px86.specs.Step.{step}
 use Rattle.px86.specs.Runs.{Followed}
 use Rattle.px86.specs.Ask.{numberOf as refusalNumber}
 use Rattle.px86.specs.Apart.{First, first, legalityOf, Longest}
-use Rattle.px86.specs.Apart.First.{none, notAllowed, lacksRoom}
+use Rattle.px86.specs.Apart.First.{none, notAllowed}
 use Rattle.px86.proofs.Apart.{Tied, tied-whole}
 use Rattle.say.specs.Said.{runKey}
 use Rattle.runs.specs.declared.Reply.the-variants.{Legal, Illegal, Refused}
@@ -88,7 +88,6 @@ stops-by : (e i : ℕ) (x : First) (l : Longest) (f : Followed) → Tied e x l f
 unfolding legalityOf
 stops-by e i none l f t q = let z : _≡_ {A = ℕ} 0 1 = cc in absurd (omega arith)
 stops-by e i (notAllowed j) l f t q = let z : j ≡ i = cc in omega (arith, t .3)
-stops-by e i (lacksRoom j) l f t q = let z : _≡_ {A = ℕ} 0 1 = cc in absurd (omega arith)
 
 pub stops-within : (p : Prog) (cs : List ℕ) (i : ℕ) → legalityOf (first (step p) 0 start cs) ≡ legality.Stops i → i < length cs
 stops-within p cs i q = stops-by (length cs) i _ _ _ (tied-whole (step p) cs start) q
@@ -100,7 +99,6 @@ number-small refusal.WrongWant = omega arith
 number-small (refusal.Over b) = omega arith
 number-small refusal.TooLong = omega arith
 number-small (refusal.Barred i) = omega arith
-number-small refusal.NoRoom = omega arith
 
 -- THE LINE, by its length and its key
 module _ (p : Prog) (l : List ℕ) where

@@ -12,7 +12,7 @@ use lib.ListN.{length, getD, drop, length-append}
 use Rattle.number.specs.Decimal.{decimal}
 use Rattle.number.proofs.Lengths.{byte-short, budget-short, decimal-short}
 use Rattle.line.specs.Join.{commaed}
-use Rattle.px86.specs.declared.Refusal.the-variants.{Illegal, WrongWant, Over, TooLong, Barred, NoRoom}
+use Rattle.px86.specs.declared.Refusal.the-variants.{Illegal, WrongWant, Over, TooLong, Barred}
 use Rattle.px86.specs.Ask.{Answer, before}
 use Rattle.px86.specs.Ask.Answer.{every, reached, never, none}
 use Rattle.px86.specs.Place.{Behind, Ascending}
@@ -124,4 +124,3 @@ said-long w lent (none WrongWant) f k = omega (arith, refused-long 7 0 (omega ar
 said-long w lent (none (Over b)) f k = omega (arith, over-length b, field-length budgetKey (decimal b), budget-short b k)
 said-long w lent (none TooLong) f k = omega (arith, refused-long 9 0 (omega arith) (omega arith))
 said-long w lent (none (Barred i)) f k = omega (arith, refused-long 10 0 (omega arith) (omega arith))
-said-long w lent (none NoRoom) f k = omega (arith, refused-long 11 0 (omega arith) (omega arith))

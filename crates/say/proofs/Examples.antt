@@ -5,7 +5,7 @@ use mathlib.Core.List.{List, [], _∷_, map}
 use Rattle.number.specs.Decimal.{digits, decimal}
 use Rattle.line.specs.Join.{join}
 use Rattle.line.proofs.Quoted.{bytes}
-use Rattle.px86.specs.declared.Refusal.the-variants.{Illegal, WrongWant, Over, TooLong, Barred, NoRoom}
+use Rattle.px86.specs.declared.Refusal.the-variants.{Illegal, WrongWant, Over, TooLong, Barred}
 use Rattle.px86.specs.Ask.{Answer}
 use Rattle.px86.specs.Ask.Answer.{every, reached, never, none}
 use Rattle.say.specs.Said.{listed, memoryLines, allText, reachedText, neverText, overText, refusedText, refusalText, said}
@@ -36,7 +36,6 @@ table =
     ∷ row (none WrongWant) "answer=refused\nnumber=7\nline=0\n"
     ∷ row (none TooLong) "answer=refused\nnumber=9\nline=0\n"
     ∷ row (none (Barred 3)) "answer=refused\nnumber=10\nline=0\n"
-    ∷ row (none NoRoom) "answer=refused\nnumber=11\nline=0\n"
     ∷ []
 
 pub said-each : map (λ (r : Row). said (r .answer)) table ≡ map (λ (r : Row). bytes (r .text)) table

@@ -4,7 +4,7 @@ use mathlib.Core.Path.{_≡_}
 use mathlib.Core.List.{List, List·Memᴰ}
 use lib.ListN.{length, getD}
 use Rattle.names.specs.Names.{mostRuns}
-use Rattle.px86.specs.declared.Refusal.the-variants.{Illegal, WrongWant, Over, TooLong, Barred, NoRoom}
+use Rattle.px86.specs.declared.Refusal.the-variants.{Illegal, WrongWant, Over, TooLong, Barred}
 use Rattle.px86.specs.Ask.{Answer}
 use Rattle.px86.specs.Ask.Answer.{every, reached, never, none}
 use Rattle.px86.specs.Place.{Ascending}
@@ -36,4 +36,3 @@ Kept w lent (none WrongWant) = Unit {0}
 Kept w lent (none (Over b)) = b ≤ mostRuns
 Kept w lent (none TooLong) = Unit {0}
 Kept w lent (none (Barred i)) = Unit {0}
-Kept w lent (none NoRoom) = Unit {0}

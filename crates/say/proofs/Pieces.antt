@@ -18,7 +18,7 @@ use Rattle.number.proofs.Put.{put-then}
 use Rattle.line.specs.Join.{join, commaed}
 use Rattle.line.proofs.Join.{join-commaed}
 use Rattle.px86.specs.declared.Refusal.{Refusal}
-use Rattle.px86.specs.declared.Refusal.the-variants.{Illegal, WrongWant, Over, TooLong, Barred, NoRoom}
+use Rattle.px86.specs.declared.Refusal.the-variants.{Illegal, WrongWant, Over, TooLong, Barred}
 use Rattle.px86.specs.Ask.{numberOf}
 use Rattle.say.specs.Said.{field, number, listed, memoryKey, memoryLines, answerKey, allWord, runsKey, memoriesKey, placeKey, runKey, budgetKey, numberKey, lineKey, allText, reachedText, neverText, overText, refusedText, refusalText}
 
@@ -98,14 +98,13 @@ unfolding allText
 all-pieces n k w xs = rw (rows-count, length-replicate) refl
 
 -- a refusal that is not of a budget: the code tells them apart by the place of the variant
-pub refusal-other : (x : Refusal) → OneOf (0 ∷ 1 ∷ 3 ∷ 4 ∷ 5 ∷ []) (tagOf the-type x) → refusalText x ≡ refusedText (numberOf x) 0
+pub refusal-other : (x : Refusal) → OneOf (0 ∷ 1 ∷ 3 ∷ 4 ∷ []) (tagOf the-type x) → refusalText x ≡ refusedText (numberOf x) 0
 unfolding refusalText
 refusal-other Illegal k = refl
 refusal-other WrongWant k = refl
-refusal-other (Over b) k = absurd (miss (0 ∷ 1 ∷ 3 ∷ 4 ∷ 5 ∷ []) 2 tt k)
+refusal-other (Over b) k = absurd (miss (0 ∷ 1 ∷ 3 ∷ 4 ∷ []) 2 tt k)
 refusal-other TooLong k = refl
 refusal-other (Barred i) k = refl
-refusal-other NoRoom k = refl
 
 pub refusal-over : (x : Refusal) (b : ℕ) → x ≡ Over b → refusalText x ≡ overText b
 unfolding refusalText

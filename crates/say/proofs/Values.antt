@@ -18,12 +18,12 @@ use Rattle.px86.specs.Machine.{Entry, Mark, Machine, from, start, left, line, p
 use Rattle.px86.specs.Machine.Entry.{store, fence, flush, flushopt}
 use Rattle.px86.specs.Machine.Mark.{write, opt}
 use Rattle.px86.specs.Step.{Stepped, stored, written, reads, join, enqueue, locked, does, next, goes, leaves, persists, Sort, sort, sorted, step}
-use Rattle.px86.specs.Step.Stepped.{to, barred, full}
+use Rattle.px86.specs.Step.Stepped.{to, barred}
 use Rattle.px86.specs.Step.Sort.{thread, leave, persist, other}
 use Rattle.px86.specs.Runs.{after}
 use Rattle.px86.specs.Place.{Comes}
 use Rattle.say.proofs.Kept.{Bytes}
-use Rattle.px86.proofs.Then.{Then, then-when, then-fits, then-either}
+use Rattle.px86.proofs.Then.{Then, then-when, then-either}
 
 -- what an instruction stores, an entry or a mark holds, is a byte
 abbrev pub Stores : Op → Type 0
@@ -161,11 +161,11 @@ small-reads p m t l h =
 -- how any step is made
 small-join : (m : Machine) (t : ℕ) (e : Entry) → InEntry e → Small m → Then Small (join m t e)
 unfolding join
-small-join m t e b h = then-fits Small _ _ (small-buffered m t _ (each-last InEntry (buffer m t) e (h .buffers t) b) h)
+small-join m t e b h = small-buffered m t _ (each-last InEntry (buffer m t) e (h .buffers t) b) h
 
 small-enqueue : (m : Machine) (n : ℕ) (k : Mark) → InMark k → Small m → Then Small (enqueue m n k)
 unfolding enqueue
-small-enqueue m n k b h = then-fits Small _ _ (small-queued m n _ (each-last InMark (queue m n) k (h .queues n) b) h)
+small-enqueue m n k b h = small-queued m n _ (each-last InMark (queue m n) k (h .queues n) b) h
 
 small-locked : (p : Prog) (m : Machine) (t r l v : ℕ) → v ≤ 255 → Small m → Then Small (locked p m t r l v)
 unfolding locked
@@ -226,7 +226,6 @@ module _ (p : Prog) where
     small-after [] x h = h
     small-after (c ∷ cs) (to m) h = small-after cs (step p m c) (small-sorted m (sort c) h)
     small-after (c ∷ cs) barred h = tt
-    small-after (c ∷ cs) full h = tt
 
     -- THEOREM: what a run leaves is bytes
     pub left-bytes : (cs : List ℕ) (m : Machine) → Comes p cs m → Bytes (left p m)

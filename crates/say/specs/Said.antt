@@ -6,7 +6,7 @@ use Rattle.number.specs.Decimal.{decimal}
 use Rattle.line.specs.Split.{lineFeed, comma}
 use Rattle.line.specs.Join.{join}
 use Rattle.px86.specs.declared.Refusal.{Refusal}
-use Rattle.px86.specs.declared.Refusal.the-variants.{Illegal, WrongWant, Over, TooLong, Barred, NoRoom}
+use Rattle.px86.specs.declared.Refusal.the-variants.{Illegal, WrongWant, Over, TooLong, Barred}
 use Rattle.px86.specs.Ask.{Answer, numberOf}
 use Rattle.px86.specs.Ask.Answer.{every, reached, never, none}
 
@@ -96,7 +96,6 @@ refusalText WrongWant = refusedText (numberOf WrongWant) 0
 refusalText (Over b) = overText b
 refusalText TooLong = refusedText (numberOf TooLong) 0
 refusalText (Barred i) = refusedText (numberOf (Barred i)) 0
-refusalText NoRoom = refusedText (numberOf NoRoom) 0
 
 unfoldable pub said : Answer → List ℕ
 said (every n ms) = allText n ms

@@ -1,8 +1,8 @@
--- One turn of the walk: what is held after a code is passed over, stopped at or followed. Assumes nothing.
+-- One turn of the walk: what is held where no code is left, and after one is followed. Assumes nothing.
 use mathlib.Core.Path.{_≡_, refl, sym, ap, _∙_, subst}
-use mathlib.Core.Bool.{false}
+use mathlib.Core.Bool.{true, false}
 use mathlib.Core.List.{List, [], _∷_, _++_, foldl}
-use Prim.Native.Nat.{ℕ, zero, suc, _+_, _<_}
+use Prim.Native.Nat.{ℕ, zero, suc, _+_, _<_, _≤_}
 use native.Mathlib.Numerals.{add-one}
 use native.Mathlib.Omega.{arith}
 use lib.ListN.{length, take, drop, set}
@@ -10,29 +10,26 @@ use lib.Seq.{take-suc-set, take-set-le}
 use Rattle.names.specs.Names.{threads}
 use Rattle.px86.specs.Machine.{Machine}
 use Rattle.px86.specs.Step.{Stepped, step}
-use Rattle.px86.specs.Step.Stepped.{to, barred, full}
-use Rattle.px86.specs.Runs.{work}
-use Rattle.px86.specs.Runs.Event.{run}
+use Rattle.px86.specs.Step.Stepped.{to, barred}
+use Rattle.px86.specs.Runs.{work, codes}
+use Rattle.px86.specs.Runs.Run.{run}
 use Rattle.px86.specs.Ask.{Tally}
 use Rattle.px86.proofs.Few.{Few}
 use Rattle.listing.specs.Listing.{each, threadsIn, progIn}
 use Rattle.state.specs.State.{File, machineOf}
 use Rattle.state.specs.declared.State.{State}
-use Rattle.verdict.specs.Verdict.{verdictOf}
-use Rattle.verdict.specs.declared.Verdict.the-variants.{Allowed, Barred, NoRoom}
+use Rattle.verdict.specs.Verdict.{allows}
+use Rattle.machine.specs.Ready.{Ready}
 use Rattle.machine.specs.Registers.{loadedOf}
 use Rattle.machine.specs.Taken.{Takes}
 use Rattle.machine.specs.declared.registers.Load.{Load}
 use Rattle.walk.specs.Codes.{First}
 use Rattle.walk.specs.Found.{goes, noted, Holds}
 use Rattle.walk.specs.Walk.{asked, Walks, runs, onward}
-use Rattle.walk.specs.declared.codes.Found.{Found}
 use Rattle.walk.specs.declared.note.Asking.{Asking}
 use Rattle.walk.specs.declared.note.Walked.{Walked}
-use Rattle.walk.specs.declared.note.Status.the-variants as status
-use Rattle.walk.proofs.Passed.{allowed-below, full-below, first-allowed, first-full}
-use Rattle.walk.proofs.Onward.{square-loaded, work-falls, fold-runs, fold-end, fold-to, fold-full}
-use Rattle.walk.proofs.Holding.{done-stays, full-holds}
+use Rattle.walk.proofs.Onward.{square-loaded, work-falls, fold-runs, fold-end, fold-to}
+use Rattle.walk.proofs.Holding.{done-stays}
 
 take-front : (d : ℕ) (l : List ℕ) → take d (take (suc d) l) ≡ take d l
 take-front zero l = refl
@@ -60,10 +57,9 @@ unfolding progIn
 asked-locs list q = refl
 
 -- an allowed step comes to a machine
-pub allowed-to : (x : Stepped) → verdictOf x ≡ Allowed → (m : Machine) × (x ≡ to m)
+pub allowed-to : (x : Stepped) → allows x ≡ true → (m : Machine) × (x ≡ to m)
 allowed-to (to m) e = (m, refl)
 allowed-to barred e = let z : _≡_ {A = ℕ} 0 1 = cc in absurd (omega arith)
-allowed-to full e = let z : _≡_ {A = ℕ} 0 1 = cc in absurd (omega arith)
 
 -- between two codes: w and o hold a tally from which the codes from k upward come to what those from c upward come to from a
 abbrev pub Between : List ℕ → Asking → State → File → List ℕ → Tally → ℕ → ℕ → Walked → List ℕ → Type 0
@@ -75,27 +71,26 @@ module _ (list : List ℕ) (q : Asking) (s : State) (g : File) (ok : Walks list 
   few = omega (arith, threads-length (q .threads) list, ok .few)
 
   -- where a code is allowed there is work left
-  pub has-work : (c : ℕ) → verdictOf (step (asked q list) (machineOf s g) c) ≡ Allowed → 0 < work (asked q list) (machineOf s g)
+  pub has-work : (c : ℕ) → allows (step (asked q list) (machineOf s g) c) ≡ true → 0 < work (asked q list) (machineOf s g)
   has-work c e =
       let a = allowed-to (step (asked q list) (machineOf s g) c) e in
-      omega (arith, work-falls (asked q list) few s g (ok .state) (ok .file) c (a .0) (a .1))
+      omega (arith, work-falls (asked q list) few s g (ok .ready .valid) (ok .file) c (a .0) (a .1))
 
   -- the walk goes on from the next state, with less work
   module _ (c : ℕ) (n : Load) (u : State) (t : Takes (step (asked q list) (machineOf s g) c) g n u) (k : File) (e : k ≡ loadedOf g n) where
-    pub walks-on : Walks list q u k
-    walks-on =
+    pub walks-on : Ready list u → Walks list q u k
+    walks-on ready =
         record {
           few = ok .few;
           beyond = ok .beyond;
-          sound = ok .sound;
           lists = ok .lists;
           asks = ok .asks;
-          state = t .valid;
+          ready = ready;
           file = rw e (square-loaded g n (ok .file) (t .load-in));
         }
 
     pub falls-on : work (asked q list) (machineOf u k) < work (asked q list) (machineOf s g)
-    falls-on = rw e (work-falls (asked q list) few s g (ok .state) (ok .file) c (machineOf u (loadedOf g n)) (t .is))
+    falls-on = rw e (work-falls (asked q list) few s g (ok .ready .valid) (ok .file) c (machineOf u (loadedOf g n)) (t .is))
 
     pub comes-to : (m : Machine) → step (asked q list) (machineOf s g) c ≡ to m → m ≡ machineOf u k
     comes-to m f = let same : to m ≡ to (machineOf u (loadedOf g n)) = sym f ∙ t .is in rw e cc
@@ -105,7 +100,7 @@ module _ (list : List ℕ) (q : Asking) (s : State) (g : File) (ok : Walks list 
     pub visited :
         (w : Walked) (o : List ℕ) → Holds q w o (foldl (noted (asked q list) q) (noted (asked q list) q a (run r (machineOf s g))) (onward (asked q list) r (machineOf s g) 0))
         → Holds q w o (foldl (noted (asked q list) q) a (runs (asked q list) r (machineOf s g)))
-    visited w o h = subst (Holds q w o) (sym (fold-runs (asked q list) few s g (ok .state) (ok .file) (noted (asked q list) q) a r)) h
+    visited w o h = subst (Holds q w o) (sym (fold-runs (asked q list) few s g (ok .ready .valid) (ok .file) (noted (asked q list) q) a r)) h
 
     -- the same of what the visit has: the path that it goes on with, and the machine that its step comes to
     pub arrived :
@@ -128,34 +123,23 @@ module _ (list : List ℕ) (q : Asking) (s : State) (g : File) (ok : Walks list 
           subst (Holds q w o)
           (sym (done-stays (asked q list) q w o (between .0) (between .1) e (onward (asked q list) r (machineOf s g) k)) ∙ between .2) (between .1)
 
-      module _ (f : Found) (first : First list s k f) where
+      module _ (f : ℕ) (first : First list s k f) where
         -- no code is left
-        pub passed : f .verdict ≡ Barred → Holds q w o (foldl (noted (asked q list) q) a (onward (asked q list) r (machineOf s g) c))
+        pub passed : codes ≤ f → Holds q w o (foldl (noted (asked q list) q) a (onward (asked q list) r (machineOf s g) c))
         passed e =
             subst (Holds q w o)
-            (sym (fold-end list (asked q list) (ok .lists) s g (noted (asked q list) q) (between .0) r k (f .code) (first .upto) (first .some e)) ∙ between .2)
+            (sym (fold-end list (asked q list) (ok .lists) s g (noted (asked q list) q) (between .0) r k f (first .upto) e) ∙ between .2)
             (between .1)
-
-        -- a step lacks room
-        pub filled :
-            w .status ≡ status.Going → (v : Walked) → v .status ≡ status.Full → f .verdict ≡ NoRoom
-            → Holds q v o (foldl (noted (asked q list) q) a (onward (asked q list) r (machineOf s g) c))
-        filled going v u e =
-            subst (Holds q v o)
-            (sym (fold-full list (asked q list) (ok .lists) s g (noted (asked q list) q) (between .0) r k (f .code) (first .upto) (full-below list s k f first e) (first-full list s k f first e (asked q list) g (ok .lists)))
-            ∙ between .2)
-            (full-holds (asked q list) q w o (between .0) (between .1) going v u (onward (asked q list) r (machineOf s g) (f .code + 1)))
 
         -- a step is taken: what the visit of it holds, in a path that has the code
         pub taken :
-            f .verdict ≡ Allowed → (v : Walked) (i back : List ℕ) → back ≡ r
-            → ((b : Tally) (m : Machine) → Holds q w o b → step (asked q list) (machineOf s g) (f .code) ≡ to m
-            → Holds q v i (foldl (noted (asked q list) q) b (runs (asked q list) (back ++ f .code ∷ []) m)))
-            → Between list q s g r a c (f .code + 1) v i
-        taken e v i back same visit =
-            let x = allowed-to (step (asked q list) (machineOf s g) (f .code)) (first-allowed list s k f first e (asked q list) g (ok .lists)) in (
-              foldl (noted (asked q list) q) (between .0) (runs (asked q list) (r ++ f .code ∷ []) (x .0)),
+            f < codes → (v : Walked) (i back : List ℕ) → back ≡ r
+            → ((b : Tally) (m : Machine) → Holds q w o b → step (asked q list) (machineOf s g) f ≡ to m
+            → Holds q v i (foldl (noted (asked q list) q) b (runs (asked q list) (back ++ f ∷ []) m)))
+            → Between list q s g r a c (f + 1) v i
+        taken h v i back same visit =
+            let x = allowed-to (step (asked q list) (machineOf s g) f) (first .is (asked q list) g (ok .lists) h) in (
+              foldl (noted (asked q list) q) (between .0) (runs (asked q list) (r ++ f ∷ []) (x .0)),
               rw same at (visit (between .0) (x .0) (between .1) (x .1)),
-              sym (fold-to list (asked q list) (ok .lists) s g (noted (asked q list) q) (between .0) r k (f .code) (first .upto) (x .0) (allowed-below list s k f first e) (x .1))
-                  ∙ between .2,
+              sym (fold-to list (asked q list) (ok .lists) s g (noted (asked q list) q) (between .0) r k f (first .upto) (x .0) h (x .1)) ∙ between .2,
             )

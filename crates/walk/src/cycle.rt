@@ -1,6 +1,7 @@
 // The walk: visiting a state and trying its codes from c upward call each other. The work left falls from a state to the next, and the codes
 // left from one code to the next.
 ghost use mathlib.Core.Path.{_≡_};
+ghost use mathlib.Core.Bool.{true};
 ghost use mathlib.Core.List.{[], _∷_, _++_, foldl};
 ghost use Prim.Native.Nat.{_+_, _≤_};
 ghost use lib.ListN.{length, take};
@@ -12,30 +13,17 @@ ghost use Rattle.px86.specs.Runs.{codes, work};
 ghost use Rattle.px86.specs.Ask.{Tally};
 ghost use Rattle.listing.specs.Listing.{Lists};
 ghost use Rattle.state.specs.State.{File, machineOf, held};
-ghost use Rattle.verdict.specs.Verdict.{verdictOf};
+ghost use Rattle.verdict.specs.Verdict.{allows};
 ghost use Rattle.walk.specs.Found.{Holds, noted};
 ghost use Rattle.walk.specs.Walk.{runs, onward, asked, Walks};
 use crate::codes::next_from;
 use crate::note::Asking;
-use crate::note::Status;
 use crate::note::Walked;
 use crate::note::is_going;
 use crate::note::note;
 use machine::registers::loaded;
 use machine::step::step;
-use verdict::Verdict;
-
-// An allowed step lacks room: the answer is known.
-fn filled(w: Walked) -> Walked
-    ensures { λ r. ⌜ r .status ≡ Status.Full ⌝ }
-{
-    Walked {
-        status: Status::Full,
-        count: w.count,
-        long: false,
-        used: 0,
-    }
-}
+use verdict::PERSIST_END;
 
 // Goes on by the code k, which is allowed, from the state that is lent: notes the run that comes there, and then every run that extends it.
 pub fn visit<'a>(
@@ -55,7 +43,7 @@ pub fn visit<'a>(
     out: &mut [u8],
 ) -> Walked
     requires { ⌜ Walks (now list) q (held (now queued) (now queues) (now buffered) (now buffers) (now places) (now memory)) g ⌝ }
-    requires { ⌜ ((p : Prog) (f : File) → Lists (now list) p → verdictOf (stepOf p (machineOf (held (now queued) (now queues) (now buffered) (now buffers) (now places) (now memory)) f) k) ≡ Verdict.Allowed) ⌝ }
+    requires { ⌜ ((p : Prog) (f : File) → Lists (now list) p → allows (stepOf p (machineOf (held (now queued) (now queues) (now buffered) (now buffers) (now places) (now memory)) f) k) ≡ true) ⌝ }
     requires { ⌜ (d + work (asked q (now list)) (machineOf (held (now queued) (now queues) (now buffered) (now buffers) (now places) (now memory)) g) ≤ length (now path)) × (k ≤ codes) ⌝ }
     ensures { λ r. ⌜ ((a : Tally) (m : Machine) → Holds q w (now (out .entry)) a → stepOf (asked q (now (list .entry))) (machineOf (held (now (queued .entry)) (now (queues .entry)) (now (buffered .entry)) (now (buffers .entry)) (now (places .entry)) (now (memory .entry))) g) k ≡ to m → Holds q r (now (out .exit)) (foldl (noted (asked q (now (list .entry))) q) a (runs (asked q (now (list .entry))) (take d (now (path .entry)) ++ k ∷ []) m))) ⌝ }
     ensures { λ _. ⌜ take d (now (path .exit)) ≡ take d (now (path .entry)) ⌝ }
@@ -127,7 +115,7 @@ pub fn try_from<'a>(
         if is_going(status) {} else {
             return v;
         }
-        let f = next_from(
+        k = next_from(
             list,
             q.threads,
             queued,
@@ -135,37 +123,27 @@ pub fn try_from<'a>(
             buffered,
             buffers,
             places,
-            memory,
             k,
         );
-        k = f.code;
-        let verdict = f.verdict;
-        match verdict {
-            Verdict::Barred => {
-                return v;
-            }
-            Verdict::NoRoom => {
-                return filled(v);
-            }
-            Verdict::Allowed => {
-                v = visit(
-                    list,
-                    q,
-                    queued,
-                    queues,
-                    buffered,
-                    buffers,
-                    places,
-                    memory,
-                    g,
-                    k,
-                    d,
-                    v,
-                    path,
-                    out,
-                );
-                k += 1;
-            }
+        if PERSIST_END <= k {
+            return v;
         }
+        v = visit(
+            list,
+            q,
+            queued,
+            queues,
+            buffered,
+            buffers,
+            places,
+            memory,
+            g,
+            k,
+            d,
+            v,
+            path,
+            out,
+        );
+        k += 1;
     }
 }

@@ -82,11 +82,16 @@ pub fn codes_for(random: &mut Random, program: &Program) -> Vec<u8> {
     }
 }
 
-/// Allowed codes, at most so many, and the state behind them. Some walks like one sort of step better than others.
+/// Allowed codes, at most so many, and the state behind them.
 pub fn allowed_walk(random: &mut Random, program: &Program, length: usize) -> (Vec<u8>, State) {
+    allowed_walk_from(random, program, State::start(program), length)
+}
+
+/// The same from any state on. Some walks like one sort of step better than others.
+pub fn allowed_walk_from(random: &mut Random, program: &Program, start: State, length: usize) -> (Vec<u8>, State) {
     let taste = random.below(6);
     let strict = random.once_in(2);
-    let mut state = State::start(program);
+    let mut state = start;
     let mut codes = Vec::new();
     while codes.len() < length {
         let allowed: Vec<(u8, State)> =

@@ -5,7 +5,7 @@ use lib.ListN.{length}
 use native.Mathlib.Omega.{arith}
 use Rattle.px86.specs.Ask.Tally.{going}
 use Rattle.walk.proofs.Cycling.{visited, asked-locs}
-use Rattle.ask.proofs.Doors.{start-walks, start-room, start-holds, start-events}
+use Rattle.ask.proofs.Doors.{start-walks, start-room, start-holds, start-runs}
 use borrow.Author.Needs.{needs}
 use Rattle.ask.proofs.walked.Statement.{statement}
 use Rattle.ask.proofs.walked.Tie as tie
@@ -54,7 +54,7 @@ returns c =
     let g = c .before .before .before .before .before .before .before .before .before .before .before .before .before .before .before .before .before .before .before .before .no-registers .ensures in
     let ok = start-walks (u .p) _ _ s g (x .pre .0) _ (u .q) (x .pre .2) (x .pre .3) (listed .1 .1 .0) (x .pre .1) (listed .0) (listed .1 .0) in
     let begun = start-holds (u .q) _ (length (u .out .now)) (c .before .before .before .before .before .before .before .before .before .before .before .before .before .before .before .before .before .before .before .before .before .before .before .before .before .clear .ensures) in
-    rw (start-events (u .p) _ _ s g (x .pre .0) _ (u .q) (x .pre .2) (x .pre .3) (listed .1 .1 .0) (going 0 [])) at
+    rw (start-runs (u .p) _ _ s g (x .pre .0) _ (u .q) (x .pre .2) (x .pre .3) (listed .1 .1 .0) (going 0 [])) at
     (visited _ (u .q) _ _ ok [] (going 0 []) _ _ (c .before .before .before .try-from .ensures .0 _ (c .before .before .before .before .before .before .before .before .before .before .before .before .before .before .before .before .note .ensures _ _ (going 0 []) (asked-locs _ (u .q)) refl begun)))
 
 pub walked-spec : {M : Type 1} → statement M

@@ -11,18 +11,18 @@ use Rattle.program.specs.Program.{Prog}
 use Rattle.program.specs.Legal.{legal}
 use Rattle.px86.specs.Step.{step}
 use Rattle.px86.specs.Apart.{longest, reachedOf}
-use Rattle.px86.proofs.Combined.{reach-legal, reach-illegal, reached-upTo, reached-noRoom}
+use Rattle.px86.proofs.Combined.{reach-legal, reach-illegal, reached-upTo}
 use Rattle.listing.specs.Listing.{Lists}
 use Rattle.state.specs.State.{held}
-use Rattle.machine.proofs.Turning.{Left, begins, was-taken, was-barred, had-no-room}
+use Rattle.machine.proofs.Turning.{Left, begins, was-taken, was-barred}
 use Rattle.reach.specs.Reply.{reply}
-use Rattle.reach.proofs.Codes.{passes, stops, fills, ends}
+use Rattle.reach.proofs.Codes.{passes, stops, ends}
 use Rattle.reach.proofs.reach.Statement.{statement}
 use Rattle.reach.proofs.reach.Tie as tie
 
 abbrev Inv-loop : tie.InvT-loop
 Inv-loop codes list queued₀ queues₀ buffered₀ buffers₀ places₀ memory₀ g₀ i₀ queued queues buffered buffers places memory g i =
-    (p : Prog) → Lists list p → Left (longest (step p)) codes (held queued queues buffered buffers places memory) g i
+    (p : Prog) → Lists list p → Left (longest (step p)) list codes (held queued queues buffered buffers places memory) g i
 
 abbrev μ-loop : tie.MeasureT-loop
 μ-loop codes list queued₀ queues₀ buffered₀ buffers₀ places₀ memory₀ g₀ i₀ queued queues buffered buffers places memory g i = length codes - i
@@ -53,7 +53,9 @@ no-registers-requires : tie.Need-no-registers-requires Inv-loop μ-loop
 no-registers-requires c κs = tt
 
 loop-holds : tie.Need-loop-holds Inv-loop μ-loop
-loop-holds c = λ p l. begins (longest (step p)) _ _ _ (c .before .before .before .before .before .before .before .start .ensures) (c .no-registers .ensures)
+loop-holds c =
+    let s = c .before .before .before .before .before .before .before in
+    λ p l. begins (longest (step p)) _ _ _ _ (s .before .listed .ensures .1 .0) (s .start .ensures) (c .no-registers .ensures)
 
 shared-slice-read-take-turn : tie.Need-shared-slice-read-take-turn Inv-loop μ-loop
 shared-slice-read-take-turn c = omega (arith, c .before .before .before .before .before .before .before .before .loop-test .taken)
@@ -61,7 +63,7 @@ shared-slice-read-take-turn c = omega (arith, c .before .before .before .before 
 take-turn-requires : tie.Need-take-turn-requires Inv-loop μ-loop
 take-turn-requires c κs =
     let l = c .before .before .before .before .before .before .before .before .before .before .before .before .before .before .before .before .before .before .listed .ensures in
-    (l .1 .0, c .before .before .before .before .before .before .before .before .before .loop .inv _ (l .0) .valid)
+    c .before .before .before .before .before .before .before .before .before .loop .inv _ (l .0) .ready
 
 enum-known-t : tie.Need-enum-known-t Inv-loop μ-loop
 enum-known-t c = search needs
@@ -69,7 +71,7 @@ enum-known-t c = search needs
 loaded-requires : tie.Need-loaded-requires Inv-loop μ-loop
 loaded-requires c κs =
     let l = c .before .before .before .before .before .before .before .before .before .before .before .before .before .before .before .before .before .before .before .before .before .before .listed .ensures in
-    was-taken _ _ _ _ _ (c .before .before .before .take-turn .ensures _ (l .0)) _ (c .before .t .given .1) .load-in
+    was-taken _ _ _ _ _ (c .before .before .before .take-turn .ensures .0 _ (l .0)) _ (c .before .t .given .1) .load-in
 
 enum-told : tie.Need-enum-told Inv-loop μ-loop
 enum-told c = search needs
@@ -80,22 +82,9 @@ arrived-requires c κs = tt
 returns-2 : tie.Need-returns-2 Inv-loop μ-loop
 returns-2 c =
     let l = c .before .before .before .before .before .before .before .before .before .before .before .before .before .before .before .before .before .before .before .before .before .before .listed .ensures in
-    let bar = was-barred _ _ _ _ _ (c .before .before .before .take-turn .ensures _ (l .0)) (c .before .enum-told .given .1) in
-    let e = stops _ _ _ _ _ (c .before .before .before .before .before .before .before .before .before .before .before .before .before .loop .inv _ (l .0)) (c .before .before .before .before .before .before .before .before .before .before .before .before .loop-test .taken) _ (bar .0) (bar .1) in
+    let bar = was-barred _ _ _ _ _ (c .before .before .before .take-turn .ensures .0 _ (l .0)) (c .before .enum-told .given .1) in
+    let e = stops _ _ _ _ _ _ (c .before .before .before .before .before .before .before .before .before .before .before .before .before .loop .inv _ (l .0)) (c .before .before .before .before .before .before .before .before .before .before .before .before .loop-test .taken) _ (bar .0) (bar .1) in
     c .arrived .ensures ∙ ap reply (sym (reach-legal _ _ (passed (c .before .before .before .before .before .before .before .before .before .before .before .before .before .before .before .before .before .before .before .before .before .before .before)) ∙ ap reachedOf e ∙ reached-upTo _ _))
-
-enum-told-2 : tie.Need-enum-told-2 Inv-loop μ-loop
-enum-told-2 c = search needs
-
-nothing-requires-2 : tie.Need-nothing-requires-2 Inv-loop μ-loop
-nothing-requires-2 c κs = tt
-
-returns-3 : tie.Need-returns-3 Inv-loop μ-loop
-returns-3 c =
-    let l = c .before .before .before .before .before .before .before .before .before .before .before .before .before .before .before .before .before .before .before .before .before .before .listed .ensures in
-    let full = had-no-room _ _ _ _ _ (c .before .before .before .take-turn .ensures _ (l .0)) (c .before .enum-told2 .given .1) in
-    let e = fills _ _ _ _ _ (c .before .before .before .before .before .before .before .before .before .before .before .before .before .loop .inv _ (l .0)) (c .before .before .before .before .before .before .before .before .before .before .before .before .loop-test .taken) (full .0) in
-    c .nothing2 .ensures ∙ ap reply (sym (reach-legal _ _ (passed (c .before .before .before .before .before .before .before .before .before .before .before .before .before .before .before .before .before .before .before .before .before .before .before)) ∙ ap reachedOf e ∙ reached-noRoom))
 
 add-i : tie.Need-add-i Inv-loop μ-loop
 add-i c = omega (arith, c .before .before .before .before .before .before .before .before .before .before .before .before .before .loop-test .taken, c .before .before .before .before .before .before .before .before .before .before .before .before .before .before .before .before .before .before .before .before .before .before .before .before .before .before .before .good .1 .0 .0)
@@ -106,16 +95,16 @@ loop-less c = omega (arith, c .before .before .before .before .before .before .b
 loop-again : tie.Need-loop-again Inv-loop μ-loop
 loop-again c =
     λ p n.
-    let t = was-taken _ _ _ _ _ (c .before .before .before .before .take-turn .ensures p n) _ (c .before .before .t .given .1) in
-    passes p _ _ _ _ (c .before .before .before .before .before .before .before .before .before .before .before .before .before .before .loop .inv p n) (c .before .before .before .before .before .before .before .before .before .before .before .before .before .loop-test .taken) _ _ _ t (c .loaded .ensures)
+    let t = was-taken _ _ _ _ _ (c .before .before .before .before .take-turn .ensures .0 p n) _ (c .before .before .t .given .1) in
+    passes p _ _ _ _ _ (c .before .before .before .before .before .before .before .before .before .before .before .before .before .before .loop .inv p n) (c .before .before .before .before .before .before .before .before .before .before .before .before .before .loop-test .taken) _ _ _ t (c .before .before .before .before .take-turn .ensures .1) (c .loaded .ensures)
 
 arrived-requires-2 : tie.Need-arrived-requires-2 Inv-loop μ-loop
 arrived-requires-2 c κs = tt
 
-returns-4 : tie.Need-returns-4 Inv-loop μ-loop
-returns-4 c =
+returns-3 : tie.Need-returns-3 Inv-loop μ-loop
+returns-3 c =
     let l = c .before .before .before .before .before .before .before .before .before .before .before .listed .ensures in
-    let e = ends _ _ _ _ _ (c .before .before .loop .inv _ (l .0)) (c .before .loop-test .left) in
+    let e = ends _ _ _ _ _ _ (c .before .before .loop .inv _ (l .0)) (c .before .loop-test .left) in
     c .arrived2 .ensures ∙ ap reply (sym (reach-legal _ _ (passed (c .before .before .before .before .before .before .before .before .before .before .before .before)) ∙ ap reachedOf e ∙ reached-upTo _ _))
 
 pub reach-spec : {M : Type 1} → statement M
@@ -138,11 +127,8 @@ reach-spec =
     enum-told
     arrived-requires
     returns-2
-    enum-told-2
-    nothing-requires-2
-    returns-3
     add-i
     loop-less
     loop-again
     arrived-requires-2
-    returns-4)
+    returns-3)

@@ -2,16 +2,13 @@
 use mathlib.Core.Path.{_≡_, refl, sym, _∙_}
 use lib.ListN.{length, take, length-set}
 use native.Mathlib.Omega.{arith}
-use borrow.Author.Needs.{needs}
 use Prim.Native.Nat.{_+_, _-_, _*_, _≤_}
 use Rattle.px86.specs.Runs.{codes, work}
 use Rattle.px86.specs.Ask.{Tally}
 use Rattle.state.specs.State.{machineOf, held}
 use Rattle.walk.specs.Found.{Holds}
 use Rattle.walk.specs.Walk.{asked}
-use Rattle.walk.proofs.Passed.{allowed-below, first-allowed}
-use Rattle.walk.proofs.Holding.{is-going}
-use Rattle.walk.proofs.Cycling.{Between, at-first, stopped, passed, filled, taken, has-work, walks-on, falls-on, comes-to, arrived, asked-locs, path-on, path-back}
+use Rattle.walk.proofs.Cycling.{Between, at-first, stopped, passed, taken, has-work, walks-on, falls-on, comes-to, arrived, asked-locs, path-on, path-back}
 use Prim.Native.Nat.{ℕ, _<_}
 use borrow.Fn.Kinds.{In}
 use borrow.Fn.PlainCycle.{Measures, is, falls, and}
@@ -24,7 +21,6 @@ use Rattle.walk.proofs.cycle.+try_from+visit.Lts-visit as visit-lts
 use Rattle.machine.proofs.registers.loaded.Reads as loaded-reads
 use Rattle.machine.proofs.step.step.Reads as step-reads
 use Rattle.walk.proofs.codes.next_from.Reads as next-from-reads
-use Rattle.walk.proofs.cycle.filled.Reads as filled-reads
 use Rattle.walk.proofs.note.is_going.Reads as is-going-reads
 use Rattle.walk.proofs.note.note.Reads as note-reads
 use Rattle.walk.proofs.cycle.+try_from+visit.{statement}
@@ -56,8 +52,6 @@ try-from-claims t = (
   is-going-reads.Learnt,
   next-from-reads.Asked,
   next-from-reads.Learnt,
-  filled-reads.Asked,
-  filled-reads.Learnt,
   visit-below t,
   visit.Post,
 )
@@ -103,81 +97,54 @@ try-from-returns t c =
 try-from-next-from-requires : (t : ℕ) → try-from-lts.Need-next-from-requires (try-from-claims t) (try-from-at t) try-from.Post try-from-Inv-loop try-from-μ-loop
 try-from-next-from-requires t c κs =
     let l = c .before .before in
-    let x = l .before .before .before in
-    ((x .pre .1 .0 .sound, x .pre .1 .0 .state), (x .pre .1 .0 .few, x .pre .1 .0 .beyond, l .loop .inv .4))
-
-try-from-enum-told : (t : ℕ) → try-from-lts.Need-enum-told (try-from-claims t) (try-from-at t) try-from.Post try-from-Inv-loop try-from-μ-loop
-try-from-enum-told t c = search needs
+    let ok = l .before .before .before .pre .1 .0 in
+    (ok .ready .valid .queues, ((ok .ready .valid .buffers, ok .ready .valid .in-places), (ok .few, ok .beyond, l .loop .inv .4)))
 
 try-from-same-length-3 : (t : ℕ) → try-from-lts.Need-same-length-3 (try-from-claims t) (try-from-at t) try-from.Post try-from-Inv-loop try-from-μ-loop
-try-from-same-length-3 t c = c .before .before .before .before .before .loop .inv .2
+try-from-same-length-3 t c = c .before .before .before .before .loop .inv .2
 
 try-from-same-length-4 : (t : ℕ) → try-from-lts.Need-same-length-4 (try-from-claims t) (try-from-at t) try-from.Post try-from-Inv-loop try-from-μ-loop
-try-from-same-length-4 t c = c .before .before .before .before .before .loop .inv .3
+try-from-same-length-4 t c = c .before .before .before .before .loop .inv .3
 
 try-from-returns-2 : (t : ℕ) → try-from-lts.Need-returns-2 (try-from-claims t) (try-from-at t) try-from.Post try-from-Inv-loop try-from-μ-loop
 try-from-returns-2 t c =
-    let l = c .before .before .before .before .before in
+    let l = c .before .before .before .before in
     let x = l .before .before .before in
-    (λ a h. passed _ _ _ _ (x .pre .1 .0) _ a _ _ _ _ (l .loop .inv .0 a h) _ (c .before .before .next-from .ensures) (c .enum-told .given .1), l .loop .inv .1)
-
-try-from-enum-told-2 : (t : ℕ) → try-from-lts.Need-enum-told-2 (try-from-claims t) (try-from-at t) try-from.Post try-from-Inv-loop try-from-μ-loop
-try-from-enum-told-2 t c = search needs
-
-try-from-filled-requires : (t : ℕ) → try-from-lts.Need-filled-requires (try-from-claims t) (try-from-at t) try-from.Post try-from-Inv-loop try-from-μ-loop
-try-from-filled-requires t c κs = tt
-
-try-from-same-length-5 : (t : ℕ) → try-from-lts.Need-same-length-5 (try-from-claims t) (try-from-at t) try-from.Post try-from-Inv-loop try-from-μ-loop
-try-from-same-length-5 t c = c .before .before .before .before .before .before .loop .inv .2
-
-try-from-same-length-6 : (t : ℕ) → try-from-lts.Need-same-length-6 (try-from-claims t) (try-from-at t) try-from.Post try-from-Inv-loop try-from-μ-loop
-try-from-same-length-6 t c = c .before .before .before .before .before .before .loop .inv .3
-
-try-from-returns-3 : (t : ℕ) → try-from-lts.Need-returns-3 (try-from-claims t) (try-from-at t) try-from.Post try-from-Inv-loop try-from-μ-loop
-try-from-returns-3 t c =
-    let l = c .before .before .before .before .before .before in
-    let x = l .before .before .before in
-    let going = is-going _ (sym (c .before .before .before .before .before .is-going .ensures) ∙ c .before .before .before .before .if1 .taken) in
-    (λ a h. filled _ _ _ _ (x .pre .1 .0) _ a _ _ _ _ (l .loop .inv .0 a h) _ (c .before .before .before .next-from .ensures) going (c .filled .result) (c .filled .ensures) (c .before .enum-told2 .given .1), l .loop .inv .1)
-
-try-from-enum-told-3 : (t : ℕ) → try-from-lts.Need-enum-told-3 (try-from-claims t) (try-from-at t) try-from.Post try-from-Inv-loop try-from-μ-loop
-try-from-enum-told-3 t c = search needs
+    (λ a h. passed _ _ _ _ (x .pre .1 .0) _ a _ _ _ _ (l .loop .inv .0 a h) _ (c .before .next-from .ensures _) (c .if2 .taken), l .loop .inv .1)
 
 try-from-visit-requires : (t : ℕ) → try-from-lts.Need-visit-requires (try-from-claims t) (try-from-at t) try-from.Post try-from-Inv-loop try-from-μ-loop
 try-from-visit-requires t c κs =
-    let l = c .before .before .before .before .before .before .before in
+    let l = c .before .before .before .before .before .before in
     let x = l .before .before .before in
-    let first = c .before .before .before .before .next-from .ensures in
-    let yes′ = c .before .before .enum-told3 .given .1 in
-    let below = allowed-below _ _ _ _ first yes′ in
-    (omega (arith, x .pre .0, below, first .upto .from, l .loop .inv .5), (x .pre .1 .0, (first-allowed _ _ _ _ first yes′, (omega (arith, x .pre .1 .1 .0, l .loop .inv .2), omega (arith, below)))))
+    let first = c .before .before .before .next-from .ensures (x .args .memory .now) in
+    let below = c .before .before .if2 .left in
+    (omega (arith, x .pre .0, below, first .upto .from, l .loop .inv .5), (x .pre .1 .0, (λ p f n. first .is p f n below, (omega (arith, x .pre .1 .1 .0, l .loop .inv .2), omega (arith, below)))))
 
 try-from-add-k : (t : ℕ) → try-from-lts.Need-add-k (try-from-claims t) (try-from-at t) try-from.Post try-from-Inv-loop try-from-μ-loop
-try-from-add-k t c =
-    let first = c .before .before .before .before .before .before .before .before .before .next-from .ensures in
-    omega (arith, allowed-below _ _ _ _ first (c .before .before .before .before .before .before .before .enum-told3 .given .1))
+try-from-add-k t c = omega (arith, c .before .before .before .before .before .before .before .if2 .left)
 
 try-from-loop-less : (t : ℕ) → try-from-lts.Need-loop-less (try-from-claims t) (try-from-at t) try-from.Post try-from-Inv-loop try-from-μ-loop
 try-from-loop-less t c =
-    let first = c .before .before .before .before .before .before .before .before .before .next-from .ensures in
-    omega (arith, allowed-below _ _ _ _ first (c .before .before .before .before .before .before .before .enum-told3 .given .1), first .upto .from)
+    let e = c .before .before .before .before .before .before .before in
+    let first = e .before .next-from .ensures (e .before .before .before .before .before .before .before .args .memory .now) in
+    omega (arith, e .if2 .left, first .upto .from)
 
 try-from-loop-again : (t : ℕ) → try-from-lts.Need-loop-again (try-from-claims t) (try-from-at t) try-from.Post try-from-Inv-loop try-from-μ-loop
 try-from-loop-again t c =
-    let l = c .before .before .before .before .before .before .before .before .before .before .before .before in
-    let x = l .before .before .before in
-    let first = c .before .before .before .before .before .before .before .before .before .next-from .ensures in
-    let yes′ = c .before .before .before .before .before .before .before .enum-told3 .given .1 in
     let v = c .before .before .before .before in
-    (λ a h. taken _ _ _ _ (x .pre .1 .0) _ a _ _ _ _ (l .loop .inv .0 a h) _ first yes′ _ _ _ (l .loop .inv .1) (v .visit .ensures .0), v .visit .ensures .1 ∙ l .loop .inv .1, v .visit .kept .1 .1 .1 .1 .1 .1 .1 .1 .1 .1 .1 .1 .0 ∙ l .loop .inv .2, v .visit .kept .1 .1 .1 .1 .1 .1 .1 .1 .1 .1 .1 .1 .1 .0 ∙ l .loop .inv .3, omega (arith, allowed-below _ _ _ _ first yes′), omega (arith, l .loop .inv .5, first .upto .from))
+    let e = v .before .before .before in
+    let l = e .before .before .before .before in
+    let x = l .before .before .before in
+    let first = e .before .next-from .ensures (x .args .memory .now) in
+    (λ a h. taken _ _ _ _ (x .pre .1 .0) _ a _ _ _ _ (l .loop .inv .0 a h) _ first (e .if2 .left) _ _ _ (l .loop .inv .1) (v .visit .ensures .0), v .visit .ensures .1 ∙ l .loop .inv .1, v .visit .kept .1 .1 .1 .1 .1 .1 .1 .1 .1 .1 .1 .1 .0 ∙ l .loop .inv .2, v .visit .kept .1 .1 .1 .1 .1 .1 .1 .1 .1 .1 .1 .1 .1 .0 ∙ l .loop .inv .3, omega (arith, e .if2 .left), omega (arith, l .loop .inv .5, first .upto .from))
 
 visit-step-requires : (t : ℕ) → visit-lts.Need-step-requires (visit-claims t) (visit-at t) visit.Post
 visit-step-requires t c κs =
     let x = c .before .before .before .before .before .before .before .before .before .before .before .before .before .before in
-    ((x .pre .1 .0 .sound, x .pre .1 .0 .state), x .pre .1 .1 .0)
+    (x .pre .1 .0 .ready, x .pre .1 .1 .0)
 
 visit-loaded-requires : (t : ℕ) → visit-lts.Need-loaded-requires (visit-claims t) (visit-at t) visit.Post
-visit-loaded-requires t c κs = c .step .ensures _ (c .before .before .before .before .before .before .before .before .before .before .before .before .before .before .before .pre .1 .0 .lists) .load-in
+visit-loaded-requires t c κs = c .step .ensures .0 _ (c .before .before .before .before .before .before .before .before .before .before .before .before .before .before .before .pre .1 .0 .lists) .load-in
 
 visit-slice-write-path : (t : ℕ) → visit-lts.Need-slice-write-path (visit-claims t) (visit-at t) visit.Post
 visit-slice-write-path t c =
@@ -202,9 +169,10 @@ visit-add-try-from t c =
 visit-try-from-requires : (t : ℕ) → visit-lts.Need-try-from-requires (visit-claims t) (visit-at t) visit.Post
 visit-try-from-requires t c κs =
     let x = c .before .before .before .before .before .before .before .before .before .before .before .before .before .before .before .before .before .before .before .before .before .before .before .before .before .before .before .before .before in
-    let t = c .before .before .before .before .before .before .before .before .before .before .before .before .before .before .step .ensures _ (x .pre .1 .0 .lists) in
+    let t = c .before .before .before .before .before .before .before .before .before .before .before .before .before .before .step .ensures .0 _ (x .pre .1 .0 .lists) in
+    let ready = c .before .before .before .before .before .before .before .before .before .before .before .before .before .before .step .ensures .1 in
     let less = falls-on _ _ _ _ (x .pre .1 .0) _ _ _ t _ (c .before .before .before .before .before .before .before .before .before .before .before .before .before .loaded .ensures) in
-    (omega (arith, x .pre .0, less), (walks-on _ _ _ _ (x .pre .1 .0) _ _ _ t _ (c .before .before .before .before .before .before .before .before .before .before .before .before .before .loaded .ensures), (simp length-set (omega (arith, x .pre .1 .1 .1 .0, less)), omega arith)))
+    (omega (arith, x .pre .0, less), (walks-on _ _ _ _ (x .pre .1 .0) _ _ _ t _ (c .before .before .before .before .before .before .before .before .before .before .before .before .before .loaded .ensures) ready, (simp length-set (omega (arith, x .pre .1 .1 .1 .0, less)), omega arith)))
 
 visit-same-length : (t : ℕ) → visit-lts.Need-same-length (visit-claims t) (visit-at t) visit.Post
 visit-same-length t c = c .before .before .before .before .try-from .kept .1 .1 .1 .1 .1 .1 .1 .1 .1 .1 .1 .1 .0 ∙ simp length-set
@@ -216,11 +184,12 @@ visit-returns : (t : ℕ) → visit-lts.Need-returns (visit-claims t) (visit-at 
 visit-returns t c =
     let x = c .before .before .before .before .before .before .before .before .before .before .before .before .before .before .before .before .before .before .before .before .before .before .before .before .before .before .before .before .before .before .before .before .before .before in
     let ok = x .pre .1 .0 in
-    let t = c .before .before .before .before .before .before .before .before .before .before .before .before .before .before .before .before .before .before .before .step .ensures _ (ok .lists) in
+    let t = c .before .before .before .before .before .before .before .before .before .before .before .before .before .before .before .before .before .before .before .step .ensures in
     let e = c .before .before .before .before .before .before .before .before .before .before .before .before .before .before .before .before .before .before .loaded .ensures in
-    let on = walks-on _ _ _ _ ok _ _ _ t _ e in
+    let taken = t .0 _ (ok .lists) in
+    let on = walks-on _ _ _ _ ok _ _ _ taken _ e (t .1) in
     let room : x .args .d < length (x .args .path .now) = omega (arith, x .pre .1 .1 .1 .0, has-work _ _ _ _ (x .pre .1 .0) _ (x .pre .1 .1 .0 _ _ (x .pre .1 .0 .lists))) in
-    (λ a m h f. arrived _ _ _ _ on _ a _ _ _ _ m (path-on (x .args .path .now) (x .args .d) _ room) (comes-to _ _ _ _ ok _ _ _ t _ e m f) (c .before .before .before .before .try-from .ensures .0 _ (c .before .before .before .before .before .before .before .before .before .before .before .before .before .before .before .note .ensures _ _ a (asked-locs (x .args .list .now) (x .args .q)) refl h)) refl, path-back (x .args .path .now) _ (x .args .d) _ room (c .before .before .before .before .try-from .ensures .1))
+    (λ a m h f. arrived _ _ _ _ on _ a _ _ _ _ m (path-on (x .args .path .now) (x .args .d) _ room) (comes-to _ _ _ _ ok _ _ _ taken _ e m f) (c .before .before .before .before .try-from .ensures .0 _ (c .before .before .before .before .before .before .before .before .before .before .before .before .before .before .before .note .ensures _ _ a (asked-locs (x .args .list .now) (x .args .q)) refl h)) refl, path-back (x .args .path .now) _ (x .args .d) _ room (c .before .before .before .before .try-from .ensures .1))
 
 pub +try-from+visit-spec : {M : Type 1} → statement M
 +try-from+visit-spec = close μ-try-from μ-visit (λ t. try-from-lts.spec (
@@ -228,8 +197,6 @@ pub +try-from+visit-spec : {M : Type 1} → statement M
   is-going-reads.Learnt,
   next-from-reads.Asked,
   next-from-reads.Learnt,
-  filled-reads.Asked,
-  filled-reads.Learnt,
   visit-below t,
   visit.Post,
 )
@@ -243,16 +210,9 @@ pub +try-from+visit-spec : {M : Type 1} → statement M
     (try-from-same-length-2 t)
     (try-from-returns t)
     (try-from-next-from-requires t)
-    (try-from-enum-told t)
     (try-from-same-length-3 t)
     (try-from-same-length-4 t)
     (try-from-returns-2 t)
-    (try-from-enum-told-2 t)
-    (try-from-filled-requires t)
-    (try-from-same-length-5 t)
-    (try-from-same-length-6 t)
-    (try-from-returns-3 t)
-    (try-from-enum-told-3 t)
     (try-from-visit-requires t)
     (try-from-add-k t)
     (try-from-loop-less t)
