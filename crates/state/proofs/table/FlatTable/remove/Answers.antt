@@ -20,20 +20,21 @@ close-requires g c =
     let fits = fits-in g.row.ROWS g.row.ROOM g.row.MOST _ _ c.self.invariant c.args.i c.requires.there n (room-of g.row.ROWS g.row.ROOM g.row.MOST _ _ c.self.invariant c.args.i) in
     record { up = omega arith; there = omega arith }
 
--- as many move as are younger
-moved : (xs ys : List ℕ) (a n k : ℕ) → ys ≡ closed 0 xs (a + k) (a + (n - 1) - (a + k)) → ys ≡ closed 0 xs (a + k) (n - 1 - k)
-moved xs ys a n k e = e ∙ ap (closed 0 xs (a + k)) (omega arith)
+-- `close` is handed the slot of the number at place k of the row that begins at a, and the slot of the row's last, its n-th: so one number moves for
+-- each that is younger, n - 1 - k of them, and none of another row
+pub younger-alone : (xs ys : List ℕ) (a n k : ℕ) → ys ≡ closed 0 xs (a + k) (a + (n - 1) - (a + k)) → ys ≡ closed 0 xs (a + k) (n - 1 - k)
+younger-alone xs ys a n k e = e ∙ ap (closed 0 xs (a + k)) (omega arith)
 
 pub invariant_of-self : goal.invariant_of-self
 invariant_of-self g c =
     let long = long-in g.row.ROWS g.row.ROOM g.row.MOST _ _ c.self.invariant c.args.i c.requires.there _ c.self.view_is in
-    rw (moved c.self.inside.slots c.close.new.slots (c.args.i * g.row.ROOM) (get_or c.self.inside.counts c.args.i 0) c.args.k c.close.ensures)
+    rw (younger-alone c.self.inside.slots c.close.new.slots (c.args.i * g.row.ROOM) (get_or c.self.inside.counts c.args.i 0) c.args.k c.close.ensures)
     (remove-filled g.row.ROWS g.row.ROOM g.row.MOST _ _ c.self.invariant c.args.i c.requires.there c.args.k (omega arith))
 
 pub returns-clause-row : goal.returns-clause-row
 returns-clause-row g c =
     let long = long-in g.row.ROWS g.row.ROOM g.row.MOST _ _ c.self.invariant c.args.i c.requires.there _ c.self.view_is in
-    rw (moved c.self.inside.slots c.close.new.slots (c.args.i * g.row.ROOM) (get_or c.self.inside.counts c.args.i 0) c.args.k c.close.ensures, ← c.self.view_is)
+    rw (younger-alone c.self.inside.slots c.close.new.slots (c.args.i * g.row.ROOM) (get_or c.self.inside.counts c.args.i 0) c.args.k c.close.ensures, ← c.self.view_is)
     (remove-rows g.row.ROWS g.row.ROOM g.row.MOST _ _ c.self.invariant c.args.i c.requires.there c.args.k (omega arith))
 
 pub returns-clause-rows : goal.returns-clause-rows
