@@ -1,8 +1,9 @@
 // A flat table of rows: one array of slots in which each row owns a stretch, and how many slots of it are in use. Contracts see the list of
 // its rows. Relied on: its rows determine its bytes.
-ghost use Rattle.std.specs.Prelude.{◌≡◌, ◌++◌, ◌∷◌, [], ◌-◌, ◌*◌, ◌<◌, ◌≤◌, ◌==◌, length, get_or, set, replicate};
+ghost use Rattle.std.specs.Prelude.{◌≡◌, ◌++◌, ◌∷◌, [], ◌+◌, ◌-◌, ◌*◌, ◌<◌, ◌≤◌, ◌==◌, length, get_or, set, replicate};
 ghost use Rattle.std.specs.List.{list_any};
 ghost use Rattle.tables.specs.Tables.{without, closed};
+ghost use Rattle.tables.proofs.Packed.{lengths};
 ghost use Rattle.state.specs.Flat.{Rows};
 
 use std::marker::Model;
@@ -69,6 +70,15 @@ impl<const SLOTS: usize, const ROWS: usize, const ROOM: usize, const MOST: u16> 
         &slots[start..start + n]
     }
 
+    /// How many numbers each row holds.
+    #[inline]
+    pub fn counts(&self) -> [u8; ROWS]
+        ensures { result ≡ lengths self.now }
+    {
+        let counts = self.counts;
+        counts
+    }
+
     /// Whether some row holds the number x.
     #[inline]
     pub fn holds(&self, x: u16) -> bool
@@ -107,24 +117,22 @@ impl<const SLOTS: usize, const ROWS: usize, const ROOM: usize, const MOST: u16> 
         ensures rows { Rows ROWS ROOM MOST self.new }
     {
         let at = i as usize;
-        let last = self.counts[at] - 1;
-        let start = at * ROOM;
-        close(
-            &mut self.slots[..],
-            start + (k as usize),
-            start + (last as usize),
-        );
-        self.counts[at] = last;
+        let n = self.counts[at];
+        close(&mut self.slots[..], at * ROOM, k as usize, n as usize);
+        self.counts[at] = n - 1;
     }
 }
 
-// The numbers behind the slot `from`, up to the slot `last`, move one slot down, and the slot `last` is blank then.
+// The number at place k leaves the row of `count` numbers that begins at the slot `row`: each younger one moves one slot down, and the slot of the
+// row's last is blank then.
 // kept: a loop, where `copy_within` would do: the theorem `only-younger` speaks of each of its turns.
-fn close(slots: &mut [u16], from: usize, last: usize)
-    requires up { from ≤ last }
-    requires there { last < length slots.old }
-    ensures { slots.new ≡ closed 0 slots.old from (last - from) }
+fn close(slots: &mut [u16], row: usize, k: usize, count: usize)
+    requires held { k < count }
+    requires there { row + count ≤ length slots.old }
+    ensures { slots.new ≡ closed 0 slots.old (row + k) (count - 1 - k) }
 {
+    let from = row + k;
+    let last = row + (count - 1);
     for a in from..last {
         slots[a] = slots[a + 1];
     }
