@@ -33,6 +33,25 @@ impl Kept {
         }
     }
 
+    /// What is kept of these bytes.
+    pub fn of(bytes: &[u8]) -> Kept
+        ensures { result ≡ seen bytes.now }
+    {
+        let mut kept = Kept::new();
+        kept.append(bytes);
+        kept
+    }
+
+    /// The same bytes, kept once more.
+    pub fn copy(&self) -> Kept
+        ensures { result ≡ self.now }
+    {
+        Kept {
+            bytes: self.bytes,
+            length: self.length,
+        }
+    }
+
     /// The bytes.
     pub fn as_slice(&self) -> &[u8]
         ensures { result.now ≡ self.now }
