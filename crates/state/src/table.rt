@@ -87,7 +87,8 @@ impl<const SLOTS: usize, const ROWS: usize, const ROOM: usize, const MOST: u16> 
         let counts = &self.counts[..];
         let rows = counts.len() as u8;
         for i in 0..rows {
-            if self.row(i).contains(&x) {
+            // most rows are empty, and a count tells it at once
+            if self.counts[i as usize] != 0 && self.row(i).contains(&x) {
                 return true;
             }
         }
