@@ -1,0 +1,8 @@
+-- `Kept::clear` meets its contract: the bytes that were in use are 0 then, as those behind them are. Assumes nothing.
+use native.Mathlib.Omega.{arith}
+use Rattle.script.proofs.Blank.{cleared-blank}
+use Rattle.script.proofs.kept.Kept.clear.Goals as goal
+
+pub invariant_of-self : goal.invariant_of-self
+invariant_of-self c =
+    (omega arith, cleared-blank 1025 _ _ c.self.invariant.0 c.self.invariant.1 _ (c.fill.ensures.after (λ y is. is)))
