@@ -3,7 +3,6 @@
 ghost use Rattle.std.specs.Prelude.{◌≡◌, ◌++◌, ◌∷◌, [], ◌+◌, ◌-◌, ◌*◌, ◌<◌, ◌≤◌, ◌==◌, length, get_or, set, replicate};
 ghost use Rattle.std.specs.List.{list_any};
 ghost use Rattle.tables.specs.Tables.{without, closed};
-ghost use Rattle.tables.proofs.Packed.{lengths};
 ghost use Rattle.state.specs.Flat.{Rows};
 
 use std::marker::Model;
@@ -68,15 +67,6 @@ impl<const SLOTS: usize, const ROWS: usize, const ROOM: usize, const MOST: u16> 
         let start = at * ROOM;
         let slots = &self.slots[..];
         &slots[start..start + n]
-    }
-
-    /// How many numbers each row holds.
-    #[inline]
-    pub fn counts(&self) -> [u8; ROWS]
-        ensures { result ≡ lengths self.now }
-    {
-        let counts = self.counts;
-        counts
     }
 
     /// Whether some row holds the number x.

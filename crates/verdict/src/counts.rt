@@ -11,13 +11,13 @@ ghost use Rattle.state.specs.State.{queues_of, File, machine_with};
 ghost use Rattle.verdict.specs.Verdict.{allows, fenced_by, Judges, instruction};
 
 use crate::reads::all_clear;
+use crate::waits;
 use listing::fetch;
 use names::{Loc, Thread};
 use program::Op;
 use state::QueueTable;
 
 /// Whether mf or a locked operation of t may be done, where the buffers hold so many entries: its own holds none, and no queue holds an fo of it.
-#[inline]
 pub fn is_fenced<'a>(queues: &'a QueueTable, counts: &'a [u8; 4], t: Thread) -> bool
     requires { t.0 < threads }
     ensures tests { result ≡ fenced_by counts.now (queues_of queues.now) t.0 }
@@ -27,21 +27,16 @@ pub fn is_fenced<'a>(queues: &'a QueueTable, counts: &'a [u8; 4], t: Thread) -> 
     counts[t.0 as usize] == 0 && all_clear(queues, t)
 }
 
-// Whether t may do the instruction o: only mf and the locked operations wait.
-#[tactic(auto, unfolding(px86::specs::Step::does, px86::specs::Step::join, px86::specs::Step::locked, px86::specs::Step::enqueue, px86::specs::Step::when, px86::specs::Step::either))]
+// Whether t may do the instruction o.
 fn may_do<'a>(queues: &'a QueueTable, counts: &'a [u8; 4], t: Thread, o: Op) -> bool
     requires { t.0 < threads }
     ensures { (bs : List (List PxEntry)) → lengths bs ≡ counts.now
         → Judges (queues_of queues.now) bs (λ p m. does p join m t.0 o) result }
 {
-    match o {
-        Op::Cas(_, _, _, _) | Op::Faa(_, _, _) | Op::Mf => is_fenced(queues, counts, t),
-        _ => true,
-    }
+    !waits(o) || is_fenced(queues, counts, t)
 }
 
 /// Codes 64+l: whether the oldest entry of the queue of l may go, where the queues hold so many entries.
-#[inline]
 pub fn may_persist(counts: &[u8; 6], l: Loc) -> bool
     requires { l.0 < locations }
     ensures { (qs : List (List Mark)) (bs : List (List PxEntry)) → lengths qs ≡ counts.now
