@@ -5,21 +5,30 @@ ghost use Rattle.script.specs.Script.{most_seen, seen};
 use std::marker::Model;
 
 /// What is kept of a text or of a line that comes byte by byte: its first 1,025 bytes, which tell that it has over 1,024. Contracts see those
-/// bytes, and what stands behind them in the array means nothing.
-#[derive(Drop)]
+/// bytes. Every byte behind them in the array is 0, so that what keeps equal bytes is equal, array and all.
+#[derive(Clone, Copy)]
 pub struct Kept {
     bytes: [u8; 1025],
     length: usize,
 }
 
 impl Model for Kept {
-    ghost use Rattle.std.specs.Prelude.{List, ℕ, ◌≤◌, take};
+    ghost use Rattle.std.specs.Prelude.{List, ℕ, ◌≡◌, ◌≤◌, take};
+    ghost use Rattle.tables.specs.Tables.{padded};
+    ghost use Rattle.script.specs.Kept.{many, bytes-again, length-again};
 
     ghost Value = { List ℕ };
 
     ghost view = { λ k. take k.length k.bytes };
 
-    ghost invariant = { λ k. k.length ≤ 1025 };
+    ghost invariant = { λ k. (k.length ≤ 1025) × (k.bytes ≡ padded 1025 0 (take k.length k.bytes)) };
+
+    ghost inverse = { λ l. record { bytes = padded 1025 0 l; length = many l } };
+
+    ghost inverse_ok = { λ k h i. record {
+      bytes = bytes-again 1025 k.bytes k.length h.0 h.1 i;
+      length = length-again 1025 k.bytes k.length h.0 h.1 i;
+    } };
 }
 
 impl Kept {
@@ -31,6 +40,15 @@ impl Kept {
             bytes: [0; 1025],
             length: 0,
         }
+    }
+
+    /// What is kept of these bytes.
+    pub fn of(bytes: &[u8]) -> Kept
+        ensures { result ≡ seen bytes.now }
+    {
+        let mut kept = Kept::new();
+        kept.append(bytes);
+        kept
     }
 
     /// The bytes.
@@ -73,6 +91,7 @@ impl Kept {
     pub fn clear(&mut self)
         ensures { self.new ≡ [] }
     {
+        self.bytes[..self.length].fill(0);
         self.length = 0;
     }
 }

@@ -1,7 +1,7 @@
 -- What the slots and counts of a flat table say of its rows, and what becomes of them where a number joins a row or leaves one.
 -- Assumes nothing.
 use Prim.Native.Nat.{ℕ, zero, suc, ◌+◌, ◌-◌, ◌*◌, ◌≤◌, ◌<◌, zero-le}
-use mathlib.Core.Path.{◌≡◌, sym, ◌∙◌, subst}
+use mathlib.Core.Path.{◌≡◌, refl, sym, ◌∙◌, subst}
 use mathlib.Core.Bool.{Bool, true, false, ◌||◌}
 use mathlib.Core.List.{List, [], ◌∷◌, ◌++◌}
 use native.Mathlib.Decide.{dec_lt}
@@ -102,6 +102,11 @@ blank-filled k w m few narrow =
 
 pub blank-rows : (k w : ℕ) → rows {A = ℕ} w (replicate (k * w) 0) (replicate k 0) ≡ replicate k []
 blank-rows k w = (blank-table {A = ℕ} w 0 k).1
+
+-- of no number of an empty row the test holds
+pub none-held : (test : ℕ → Bool) (r : List ℕ) → length r ≡ 0 → list_any test r ≡ false
+none-held test [] h = refl
+none-held test (x ∷ r) h = absurd (omega (arith, h))
 
 -- a loop that seeks a row of which the test holds: one turn, and its end
 module _ (test : List ℕ → Bool) (rs : List (List ℕ)) (i : ℕ) where

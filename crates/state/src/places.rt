@@ -1,8 +1,10 @@
 // Where the threads are in their instructions.
 ghost use Rattle.std.specs.Prelude.{◌≡◌, ◌+◌, ◌<◌, ◌≤◌, get_or, set, replicate};
 ghost use Rattle.names.specs.Names.{threads};
+ghost use Rattle.tables.specs.Tables.{Below};
 ghost use Rattle.program.specs.Program.{most_ops};
 
+use crate::advance;
 use names::Thread;
 use std::marker::Model;
 
@@ -37,7 +39,8 @@ impl Places {
     /// The places, by thread.
     #[inline]
     pub fn all(&self) -> [u8; 4]
-        ensures { result ≡ self.now }
+        ensures value { result ≡ self.now }
+        ensures allowed { Below most_ops result }
     {
         let all = self.each;
         all
@@ -61,6 +64,6 @@ impl Places {
         requires room { get_or self.old t.0 0 + k ≤ most_ops }
         ensures { self.new ≡ set self.old t.0 (get_or self.old t.0 0 + k) }
     {
-        self.each[t.0 as usize] += k;
+        advance(&mut self.each, t, k);
     }
 }

@@ -1,6 +1,6 @@
 // A flat table of rows: one array of slots in which each row owns a stretch, and how many slots of it are in use. Contracts see the list of
 // its rows. Relied on: its rows determine its bytes.
-ghost use Rattle.std.specs.Prelude.{◌≡◌, ◌++◌, ◌∷◌, [], ◌-◌, ◌*◌, ◌<◌, ◌≤◌, ◌==◌, length, get_or, set, replicate};
+ghost use Rattle.std.specs.Prelude.{◌≡◌, ◌++◌, ◌∷◌, [], ◌+◌, ◌-◌, ◌*◌, ◌<◌, ◌≤◌, ◌==◌, length, get_or, set, replicate};
 ghost use Rattle.std.specs.List.{list_any};
 ghost use Rattle.tables.specs.Tables.{without, closed};
 ghost use Rattle.state.specs.Flat.{Rows};
@@ -77,7 +77,8 @@ impl<const SLOTS: usize, const ROWS: usize, const ROOM: usize, const MOST: u16> 
         let counts = &self.counts[..];
         let rows = counts.len() as u8;
         for i in 0..rows {
-            if self.row(i).contains(&x) {
+            // most rows are empty, and a count tells it at once
+            if self.counts[i as usize] != 0 && self.row(i).contains(&x) {
                 return true;
             }
         }
@@ -107,24 +108,22 @@ impl<const SLOTS: usize, const ROWS: usize, const ROOM: usize, const MOST: u16> 
         ensures rows { Rows ROWS ROOM MOST self.new }
     {
         let at = i as usize;
-        let last = self.counts[at] - 1;
-        let start = at * ROOM;
-        close(
-            &mut self.slots[..],
-            start + (k as usize),
-            start + (last as usize),
-        );
-        self.counts[at] = last;
+        let n = self.counts[at];
+        close(&mut self.slots[..], at * ROOM, k as usize, n as usize);
+        self.counts[at] = n - 1;
     }
 }
 
-// The numbers behind the slot `from`, up to the slot `last`, move one slot down, and the slot `last` is blank then.
+// The number at place k leaves the row of `count` numbers that begins at the slot `row`: each younger one moves one slot down, and the slot of the
+// row's last is blank then.
 // kept: a loop, where `copy_within` would do: the theorem `only-younger` speaks of each of its turns.
-fn close(slots: &mut [u16], from: usize, last: usize)
-    requires up { from ≤ last }
-    requires there { last < length slots.old }
-    ensures { slots.new ≡ closed 0 slots.old from (last - from) }
+fn close(slots: &mut [u16], row: usize, k: usize, count: usize)
+    requires held { k < count }
+    requires there { row + count ≤ length slots.old }
+    ensures { slots.new ≡ closed 0 slots.old (row + k) (count - 1 - k) }
 {
+    let from = row + k;
+    let last = row + (count - 1);
     for a in from..last {
         slots[a] = slots[a + 1];
     }

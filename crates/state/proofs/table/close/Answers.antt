@@ -12,21 +12,25 @@ pub only-younger :
     (c : At-loop-a)
     → let b = c.args in
     let l = c.loop-a in
-    (b.from ≤ l.a) × (l.a + (b.last - l.a) ≡ b.last)
-    × (take b.from l.slots ≡ take b.from b.slots.now)
+    let younger = b.row + (b.count - 1) - l.a in
+    (b.row + b.k ≤ l.a) × (l.a + younger + 1 ≡ b.row + b.count)
+    × (take (b.row + b.k) l.slots ≡ take (b.row + b.k) b.slots.now)
     × (drop (l.a + 1) l.slots ≡ drop (l.a + 1) b.slots.now)
 only-younger c =
     let i = c.loop-a.invariant in
-    (i.behind, omega (arith, i.turns, c.requires.up), i.older, i.younger)
+    (i.behind, omega (arith, i.turns, c.requires.held), i.older, i.younger)
 
 pub loop-a-preserved : goal.loop-a-preserved
 loop-a-preserved c =
+    let b = c.args in
     let l = c.loop-a in
-    let left : c.args.last - l.a - 1 ≡ c.args.last - (l.a + 1) = omega arith in
-    rw (← left) (closing-turn 0 _ c.args.from (c.args.last - c.args.from) l.slots l.a (c.args.last - l.a) l.invariant (omega arith))
+    let left : b.row + (b.count - 1) - l.a - 1 ≡ b.row + (b.count - 1) - (l.a + 1) = omega arith in
+    rw (← left) (closing-turn 0 _ (b.row + b.k) (b.count - 1 - b.k) l.slots l.a (b.row + (b.count - 1) - l.a) l.invariant (omega arith))
 
 pub returns : goal.returns
 returns c =
+    let b = c.args in
     let l = c.loop-a in
-    let end : l.a ≡ c.args.last = omega (arith, l.invariant.turns, c.requires.up) in
-    ap (λ n. set l.slots n 0) (sym end) ∙ closing-ends 0 _ c.args.from (c.args.last - c.args.from) l.slots l.a (c.args.last - l.a) l.invariant (omega arith)
+    let end : l.a ≡ b.row + (b.count - 1) = omega (arith, l.invariant.turns, c.requires.held) in
+    ap (λ n. set l.slots n 0) (sym end)
+    ∙ closing-ends 0 _ (b.row + b.k) (b.count - 1 - b.k) l.slots l.a (b.row + (b.count - 1) - l.a) l.invariant (omega arith)

@@ -4,7 +4,7 @@ use Rattle.script.proofs.Seen.{kept-none, seen_next}
 use Rattle.script.proofs.kept.Kept.append.Goals as goal
 
 pub loop-c-init : goal.loop-c-init
-loop-c-init c = sym c.self.view_is ∙ kept-none _ _ c.self.invariant (search rules) ∙ ap (λ (l : List ℕ). seen (l ++ [])) c.self.view_is
+loop-c-init c = sym c.self.view_is ∙ kept-none _ _ c.self.invariant.0 (search rules) ∙ ap (λ (l : List ℕ). seen (l ++ [])) c.self.view_is
 
 pub loop-c-preserved : goal.loop-c-preserved
 loop-c-preserved c =

@@ -1,16 +1,12 @@
 -- `FlatTable::remove` meets its contract: the younger numbers move one slot down within the row's own slots, and the count falls by one.
 -- Assumes nothing.
-use Prim.Native.Nat.{ℕ, ◌+◌, ◌-◌, ◌*◌}
-use mathlib.Core.Path.{◌≡◌, ap, ◌∙◌}
-use mathlib.Core.List.{List}
 use native.Mathlib.Omega.{arith}
 use lib.ListN.{get_or}
-use Rattle.tables.specs.Tables.{closed}
 use Rattle.state.proofs.Flats.{room-of, slots-are, fits-in, long-in, remove-filled, remove-rows, rows-of}
 use Rattle.state.proofs.table.FlatTable.remove.Goals as goal
 
-pub overflow_sub-last : goal.overflow_sub-last
-overflow_sub-last g c = omega (arith, long-in g.row.ROWS g.row.ROOM g.row.MOST _ _ c.self.invariant c.args.i c.requires.there _ c.self.view_is)
+pub overflow_sub-self : goal.overflow_sub-self
+overflow_sub-self g c = omega (arith, long-in g.row.ROWS g.row.ROOM g.row.MOST _ _ c.self.invariant c.args.i c.requires.there _ c.self.view_is)
 
 pub close-requires : goal.close-requires
 close-requires g c =
@@ -18,23 +14,18 @@ close-requires g c =
     let long = long-in g.row.ROWS g.row.ROOM g.row.MOST _ _ c.self.invariant c.args.i c.requires.there _ c.self.view_is in
     let slots = slots-are g.row.ROWS g.row.ROOM g.row.MOST _ _ c.self.invariant in
     let fits = fits-in g.row.ROWS g.row.ROOM g.row.MOST _ _ c.self.invariant c.args.i c.requires.there n (room-of g.row.ROWS g.row.ROOM g.row.MOST _ _ c.self.invariant c.args.i) in
-    record { up = omega arith; there = omega arith }
-
--- `close` is handed the slot of the number at place k of the row that begins at a, and the slot of the row's last, its n-th: so one number moves for
--- each that is younger, n - 1 - k of them, and none of another row
-pub younger-alone : (xs ys : List ℕ) (a n k : ℕ) → ys ≡ closed 0 xs (a + k) (a + (n - 1) - (a + k)) → ys ≡ closed 0 xs (a + k) (n - 1 - k)
-younger-alone xs ys a n k e = e ∙ ap (closed 0 xs (a + k)) (omega arith)
+    record { held = omega arith; there = omega arith }
 
 pub invariant_of-self : goal.invariant_of-self
 invariant_of-self g c =
     let long = long-in g.row.ROWS g.row.ROOM g.row.MOST _ _ c.self.invariant c.args.i c.requires.there _ c.self.view_is in
-    rw (younger-alone c.self.inside.slots c.close.new.slots (c.args.i * g.row.ROOM) (get_or c.self.inside.counts c.args.i 0) c.args.k c.close.ensures)
+    rw (c.close.ensures)
     (remove-filled g.row.ROWS g.row.ROOM g.row.MOST _ _ c.self.invariant c.args.i c.requires.there c.args.k (omega arith))
 
 pub returns-clause-row : goal.returns-clause-row
 returns-clause-row g c =
     let long = long-in g.row.ROWS g.row.ROOM g.row.MOST _ _ c.self.invariant c.args.i c.requires.there _ c.self.view_is in
-    rw (younger-alone c.self.inside.slots c.close.new.slots (c.args.i * g.row.ROOM) (get_or c.self.inside.counts c.args.i 0) c.args.k c.close.ensures, ← c.self.view_is)
+    rw (c.close.ensures, ← c.self.view_is)
     (remove-rows g.row.ROWS g.row.ROOM g.row.MOST _ _ c.self.invariant c.args.i c.requires.there c.args.k (omega arith))
 
 pub returns-clause-rows : goal.returns-clause-rows
